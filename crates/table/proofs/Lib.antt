@@ -1,0 +1,6 @@
+pub mod Laws
+pub mod Walks
+pub mod Scans
+pub mod Descents
+pub mod Checks
+pub mod Writes

@@ -1,0 +1,200 @@
+-- How the writes of a walk follow each other, and what a question makes of them. Nothing here knows what is written.
+--     written-none, written-one     nothing; one entry
+--     written-then                  one run of entries after another
+--     writing                       a walk's `rest`: what the buffer and the next place will be
+--     writing-turn, writing-last    some of it is written; the last of it is
+--     writing-step, writing-end     the same where what is left to write keeps its form
+--     list-refused                  a question that its own rules refuse
+--     list-written, list-denied     counted on an empty part of the buffer, then written, or refused for want of room
+-- Assumes nothing.
+use mathlib.Core.Path.{_≡_, refl, sym, ap, _∙_}
+use mathlib.Core.Bool.{cond}
+use mathlib.Core.List.{List, [], _∷_, _++_, append-assoc, append-nil}
+use Prim.Native.Nat.{ℕ, zero, suc, _+_, _*_, _/_, _≤_, _<_}
+use native.Mathlib.Omega.{arith}
+use native.Mathlib.Nat.{add-zero, zero-add, add-assoc, suc-mul, mul-div-cancel}
+use native.Mathlib.Numerals.{add-one}
+use lib.ListN.{length, take, drop, set, getD, length-append}
+use lib.Seq.{sets, sets-eq, length-sets, take-suc, take-all, length-take-le}
+use lib.Dec.{ltb}
+use borrow.Author.Tests.{lt-ltb, le-ltb}
+use Rattle.table.specs.declared.check.Verdict.the-variants.{Admitted, Refused}
+use Rattle.table.specs.declared.list.Listed.the-variants.{Entries, Refused as Denied}
+use Rattle.table.specs.Forest.{Forest, nil}
+use Rattle.table.specs.Rules.{Rule, first}
+use Rattle.table.specs.Lists.{numberBytes, le4, rowBytes, listBytes, roomRule, listVerdict, reply, buffer, listed, lent, put, fill, Written}
+use Rattle.table.proofs.Checks.{then-refused, then-admitted}
+
+length-row : (vs : List ℕ) → length (rowBytes vs) ≡ numberBytes * length vs
+unfolding rowBytes
+length-row [] = refl
+length-row (v ∷ vs) = omega (arith, length-row vs)
+
+sets-append : (xs ys l : List ℕ) (i : ℕ) → sets (sets l i xs) (i + length xs) ys ≡ sets l i (xs ++ ys)
+sets-append [] ys l i = rw (add-zero i)
+sets-append (x ∷ xs) ys l i =
+    let e : i + suc (length xs) ≡ suc i + length xs = omega arith in
+    rw e (sets-append xs ys (set l i x) (suc i))
+
+front-none : (l out : List ℕ) → length l ≡ 0 → l ++ out ≡ out
+front-none [] out h = refl
+front-none (x ∷ l) out h = absurd (omega arith)
+
+module _ {E : Type 0} (row : E → List ℕ) where
+  list-append : (xs ys : List E) → listBytes row (xs ++ ys) ≡ listBytes row xs ++ listBytes row ys
+  unfolding listBytes
+  list-append [] ys = refl
+  list-append (x ∷ xs) ys = rw (list-append xs ys) (sym (append-assoc (rowBytes (row x)) (listBytes row xs) (listBytes row ys)))
+
+  length-list-append : (xs ys : List E) → length (listBytes row (xs ++ ys)) ≡ length (listBytes row xs) + length (listBytes row ys)
+  length-list-append xs ys = rw (list-append xs ys) (length-append (listBytes row xs) (listBytes row ys))
+
+  length-cons : (e : E) (es : List E) → length (listBytes row (e ∷ es)) ≡ numberBytes * length (row e) + length (listBytes row es)
+  unfolding listBytes
+  length-cons e es = length-append (rowBytes (row e)) (listBytes row es) ∙ rw (length-row (row e))
+
+  fill-append : (out : List ℕ) (at : ℕ) (xs ys : List E) → fill row out at (xs ++ ys) ≡ fill row (fill row out at xs) (at + length (listBytes row xs)) ys
+  unfolding fill
+  fill-append out at [] ys = (unfold listBytes in rw (add-zero at))
+  fill-append out at (x ∷ xs) ys =
+      rw (length-cons x xs, ← add-assoc)
+      (fill-append (put out at (row x)) (at + numberBytes * length (row x)) xs ys)
+
+  pub written-none : (out : List ℕ) (at : ℕ) → Written row [] out at out at
+  unfolding fill listBytes
+  written-none out at = record { bytes = refl; next = omega arith }
+
+  pub written-one : (e : E) (out : List ℕ) (at : ℕ) {out′ : List ℕ} {at′ : ℕ} → out′ ≡ put out at (row e) → at′ ≡ at + numberBytes * length (row e)
+      → Written row (e ∷ []) out at out′ at′
+  unfolding fill
+  written-one e out at p q =
+      let z : length (listBytes row []) ≡ 0 = (unfold listBytes in refl) in
+      record { bytes = p; next = omega (arith, length-cons e []) }
+
+  pub written-then : {xs ys : List E} {a b c : List ℕ} {n m l : ℕ} → Written row xs a n b m → Written row ys b m c l → Written row (xs ++ ys) a n c l
+  written-then {xs} {ys} {a} {b} {c} {n} {m} {l} p q =
+      record {
+        bytes = q .bytes ∙ rw (p .bytes, p .next) (sym (fill-append a n xs ys));
+        next = omega (arith, length-list-append xs ys, p .next, q .next);
+      }
+
+  -- ---- the `rest` of a walk that writes entries: what out and the next place will be once ans f is written from byte `at` on
+  unfoldable pub writing : (Forest → List E) → List ℕ → ℕ → Forest → List ℕ × ℕ
+  writing ans out at f = (fill row out at (ans f), at + length (listBytes row (ans f)))
+
+  pub writing-turn : (ans ans′ : Forest → List E) (g f : Forest) {xs : List E} {out out′ : List ℕ} {at at′ : ℕ} → ans g ≡ xs ++ ans′ f
+      → Written row xs out at out′ at′ → writing ans out at g ≡ writing ans′ out′ at′ f
+  unfolding writing
+  writing-turn ans ans′ g f {xs} {out} {out′} {at} {at′} e w =
+      let l : at + length (listBytes row (xs ++ ans′ f)) ≡ at′ + length (listBytes row (ans′ f)) = omega (arith, length-list-append xs (ans′ f), w .next) in
+      rw (e, l, w .bytes, fill-append out at xs (ans′ f), w .next)
+
+  pub writing-last : (ans ans′ : Forest → List E) (g : Forest) {out out′ out″ : List ℕ} {at at′ at″ : ℕ} → Written row (ans′ nil) out′ at′ out″ at″
+      → writing ans′ out′ at′ nil ≡ writing ans out at g → Written row (ans g) out at out″ at″
+  unfolding writing
+  writing-last ans ans′ g w e =
+      record { bytes = w .bytes ∙ ap (λ (x : List ℕ × ℕ). x .0) e; next = w .next ∙ ap (λ (x : List ℕ × ℕ). x .1) e }
+
+  pub writing-step : (ans : Forest → List E) (g f : Forest) {xs : List E} {out out′ : List ℕ} {at at′ : ℕ} → ans g ≡ xs ++ ans f
+      → Written row xs out at out′ at′ → writing ans out at g ≡ writing ans out′ at′ f
+  writing-step ans g f e w = writing-turn ans ans g f e w
+
+  pub writing-end : (ans : Forest → List E) (g : Forest) {out out′ : List ℕ} {at at′ : ℕ} → ans nil ≡ []
+      → writing ans out′ at′ nil ≡ writing ans out at g → Written row (ans g) out at out′ at′
+  writing-end ans g {out} {out′} {at} {at′} z e = writing-last ans ans g (rw z (written-none out′ at′)) e
+
+  -- ---- the bytes where all entries have room
+  fill-sets : (out : List ℕ) (at : ℕ) (es : List E) → at + length (listBytes row es) ≤ length out → fill row out at es ≡ sets out at (listBytes row es)
+  unfolding fill put listBytes
+  fill-sets out at [] h = refl
+  fill-sets out at (e ∷ es) h =
+      let l : length (sets out at (rowBytes (row e))) ≡ length out = length-sets out at (rowBytes (row e)) in
+      let n : length (listBytes row (e ∷ es)) ≡ numberBytes * length (row e) + length (listBytes row es) = length-cons e es in
+      rw (le-ltb (length out) (at + numberBytes * length (row e)) (omega arith))
+      (fill-sets (sets out at (rowBytes (row e))) (at + numberBytes * length (row e)) es (rw l (omega arith))
+      ∙ rw (← length-row (row e)) (sets-append (rowBytes (row e)) (listBytes row es) out at))
+
+  written-whole : {es : List E} {out out′ : List ℕ} {m : ℕ} → Written row es out 0 out′ m → length (listBytes row es) ≤ length out
+      → out′ ≡ listBytes row es ++ drop (length (listBytes row es)) out
+  written-whole {es} {out} w h =
+      w .bytes ∙ fill-sets out 0 es (omega arith)
+      ∙ sets-eq (listBytes row es) out 0 (omega arith)
+      ∙ rw (zero-add (length (listBytes row es)))
+
+  -- ---- a question for a list
+  pub list-refused : (rs : List Rule) (es : List E) (out : List ℕ) {k d : ℕ} → Refused k d ≡ first rs
+      → (Denied k d ≡ listed rs row es out) × (out ≡ lent rs row es out)
+  unfolding listed lent reply buffer
+  list-refused rs es out e =
+      let v = then-refused rs (roomRule row es out ∷ []) e in
+      (rw (← v), rw (← v))
+
+  listed-room : (rs : List Rule) (es : List E) (out : List ℕ) → Admitted ≡ first rs → length (listBytes row es) ≤ length out
+      → Admitted ≡ listVerdict rs row es out
+  listed-room rs es out e h = sym (then-admitted rs (roomRule row es out ∷ []) e ∙ rw (le-ltb (length out) (length (listBytes row es)) h))
+
+  listed-short : (rs : List Rule) (es : List E) (out : List ℕ) → Admitted ≡ first rs → length out < length (listBytes row es)
+      → Refused 7 (length es) ≡ listVerdict rs row es out
+  listed-short rs es out e h = sym (then-admitted rs (roomRule row es out ∷ []) e ∙ rw (lt-ltb (length out) (length (listBytes row es)) h))
+
+  -- entries of w bytes each
+  module _ (w : ℕ) (wide : (e : E) → numberBytes * length (row e) ≡ w) where
+    length-wide : (es : List E) → length (listBytes row es) ≡ length es * w
+    length-wide [] = (unfold listBytes in omega arith)
+    length-wide (e ∷ es) = length-cons e es ∙ rw (wide e, length-wide es, suc-mul (length es) w) (omega arith)
+
+    entries-of : (es : List E) (m : ℕ) → 0 < w → m ≡ length (listBytes row es) → m / w ≡ length es
+    entries-of es m p q = rw (q, length-wide es) (mul-div-cancel (length es) p)
+
+    -- a function that counts by a call on an empty part of out, `&mut out[..0]`, and calls again to write if all have room
+    module _ (p : 0 < w) (rs : List Rule) (es : List E) (out : List ℕ) (ok : Admitted ≡ first rs) {e l : List ℕ} {m : ℕ}
+        (c : Written row es e 0 l m) (z : length l ≡ 0) where
+      pub list-written : {out′ : List ℕ} {m′ : ℕ} → Written row es (l ++ out) 0 out′ m′ → m ≤ length (l ++ out)
+          → (Entries (m / w) ≡ listed rs row es out) × (out′ ≡ lent rs row es out)
+      unfolding listed lent reply buffer
+      list-written c′ h =
+          let q : l ++ out ≡ out = front-none l out z in
+          let v = listed-room rs es out ok (omega (arith, c .next, ap length q)) in (
+            rw (← v, entries-of es m p (omega (arith, c .next))),
+            rw (← v) (written-whole (rw q at c′) (omega (arith, c .next, ap length q))),
+          )
+
+      pub list-denied : length (l ++ out) < m → (Denied 7 (m / w) ≡ listed rs row es out) × (l ++ out ≡ lent rs row es out)
+      unfolding listed lent reply buffer
+      list-denied h =
+          let q : l ++ out ≡ out = front-none l out z in
+          let v = listed-short rs es out ok (omega (arith, c .next, ap length q)) in
+          (rw (← v, entries-of es m p (omega (arith, c .next))), rw (← v) q)
+
+-- ---- an entry, number by number
+
+-- the first i numbers of an entry are written from byte `at` on
+pub record Putting (out : List ℕ) (at : ℕ) (entry : List ℕ) (i : ℕ) (out′ : List ℕ) : Type 0 where
+  pub now-is : out′ ≡ sets out at (rowBytes (take i entry))
+
+row-append : (xs ys : List ℕ) → rowBytes (xs ++ ys) ≡ rowBytes xs ++ rowBytes ys
+unfolding rowBytes
+row-append [] ys = refl
+row-append (x ∷ xs) ys = rw (row-append xs ys)
+
+module _ (out : List ℕ) (at : ℕ) (entry : List ℕ) where
+  pub putting-start : Putting out at entry 0 out
+  unfolding rowBytes
+  putting-start = record { now-is = refl }
+
+  module _ {i : ℕ} {out′ : List ℕ} (w : Putting out at entry i out′) where
+    pub putting-next : {out″ : List ℕ} → i < length entry → out″ ≡ sets out′ (at + numberBytes * i) (le4 (getD entry i 0)) → Putting out at entry (i + 1) out″
+    putting-next h q =
+        let n : length (rowBytes (take i entry)) ≡ numberBytes * i = length-row (take i entry) ∙ ap (λ (x : ℕ). numberBytes * x) (length-take-le i entry (omega arith)) in
+        let r : rowBytes (getD entry i 0 ∷ []) ≡ le4 (getD entry i 0) = (unfold rowBytes in refl) in
+        record {
+          now-is = q ∙ rw (add-one i, take-suc entry i 0 h, row-append (take i entry) (getD entry i 0 ∷ []), r, w .now-is, ← n) (sets-append (rowBytes (take i entry)) (le4 (getD entry i 0)) out at);
+        }
+
+    pub putting-end : length entry ≤ i → at + numberBytes * length entry ≤ length out → out′ ≡ put out at entry
+    unfolding put
+    putting-end h g = rw (le-ltb (length out) (at + numberBytes * length entry) g) (w .now-is ∙ ap (λ (l : List ℕ). sets out at (rowBytes l)) (take-all i entry h))
+
+  pub putting-none : length out < at + numberBytes * length entry → out ≡ put out at entry
+  unfolding put
+  putting-none g = rw (lt-ltb (length out) (at + numberBytes * length entry) g)

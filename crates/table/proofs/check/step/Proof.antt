@@ -1,0 +1,21 @@
+use native.Mathlib.Omega.{arith}
+use borrow.Author.Tests.{lt-ltb, le-ltb}
+use Rattle.table.specs.Step.{stepOf}
+use borrow.Author.Needs.{needs}
+use Rattle.table.proofs.check.step.Statement.{statement}
+use Rattle.table.proofs.check.step.Tie as tie
+
+pub step-spec : {M : Type 1} → statement M
+unfolding stepOf
+step-spec =
+    tie.close
+    (tie.spec
+    (λ c κs. search needs)  -- strange-requires
+    (λ c. simp (← c .before .strange .ensures, c .if1 .taken))  -- returns
+    (λ c κs. search needs)  -- out-of-place-requires
+    (λ c. simp (← c .before .before .before .strange .ensures, c .before .before .if1 .left, ← c .before .out-of-place .ensures, c .if2 .taken))  -- returns-2
+    (λ c. simp (← c .before .before .before .before .before .strange .ensures, c .before .before .before .before .if1 .left, ← c .before .before .before .out-of-place .ensures, c .before .before .if2 .left, lt-ltb _ _ (c .if3 .taken)))  -- returns-3
+    (λ c κs. search needs)  -- off-source-requires
+    (λ c. simp (← c .before .before .before .before .before .before .before .strange .ensures, c .before .before .before .before .before .before .if1 .left, ← c .before .before .before .before .before .out-of-place .ensures, c .before .before .before .before .if2 .left, le-ltb _ _ (c .before .before .if3 .left), ← c .before .off-source .ensures, c .if4 .taken))  -- returns-4
+    (λ c κs. search needs)  -- after-requires
+    (λ c. simp (← c .before .before .before .before .before .before .before .before .strange .ensures, c .before .before .before .before .before .before .before .if1 .left, ← c .before .before .before .before .before .before .out-of-place .ensures, c .before .before .before .before .before .if2 .left, le-ltb _ _ (c .before .before .before .if3 .left), ← c .before .before .off-source .ensures, c .before .if4 .left, ← c .after .ensures)))  -- returns-5

@@ -1,0 +1,19 @@
+use Rattle.table.proofs.Checks.{few}
+use Rattle.table.specs.Rules.{verdict}
+use mathlib.Core.Path.{_∙_}
+use borrow.Author.Needs.{needs}
+use native.Mathlib.Omega.{arith}
+use Rattle.table.proofs.check.verdict_on.Statement.{statement}
+use Rattle.table.proofs.check.verdict_on.Tie as tie
+
+pub verdict-on-spec : {M : Type 1} → statement M
+unfolding verdict
+verdict-on-spec =
+    tie.close
+    (tie.spec
+    (λ c κs. search needs)  -- bad-length-requires
+    (λ c. simp (← c .before .bad-length .ensures, c .if1 .taken))  -- returns
+    (λ c κs. search needs)  -- too-long-requires
+    (λ c. simp (← c .before .before .before .bad-length .ensures, c .before .before .if1 .left, ← c .before .too-long .ensures, c .if2 .taken))  -- returns-2
+    (λ c κs. few (c .before .before .before .before .before .args .table .now) (cc))  -- check-records-requires
+    (λ c. c .check-records .ensures ∙ simp (← c .before .before .before .before .bad-length .ensures, c .before .before .before .if1 .left, ← c .before .before .too-long .ensures, c .before .if2 .left)))  -- returns-3

@@ -1,0 +1,106 @@
+-- When a table is refused, with which number and which detail: document 01's refusals 1 to 6 and 8, in its order.
+-- Definitions only.
+use Prim.Native.Nat.{ℕ, zero, suc, _+_, _-_, _/_, _%_}
+use mathlib.Core.Bool.{Bool, false, cond, not, _&&_, _||_}
+use mathlib.Core.List.{List, [], _∷_, _++_}
+use lib.ListN.{length}
+use lib.Dec.{ltb, leb, eqb}
+use Rattle.table.specs.declared.check.Verdict.{Verdict}
+use Rattle.table.specs.declared.check.Verdict.the-variants.{Admitted, Refused}
+use Rattle.table.specs.Kinds.{isNode, isToken}
+use Rattle.table.specs.Table.{recordBytes, count, kindAt, depthAt, startAt, endAt}
+
+-- ---- the limits
+abbrev pub mostRecords : ℕ
+mostRecords = 4096
+
+abbrev pub mostDepth : ℕ
+mostDepth = 63
+
+abbrev pub mostSource : ℕ
+mostSource = 65536
+
+abbrev pub mostMessage : ℕ
+mostMessage = 4096
+
+-- ---- the conditions, of the table t, a source of n bytes and a message of m bytes
+
+-- 1: table length 0, not a multiple of 16, or over 4,096 records
+abbrev pub badLength : List ℕ → Bool
+badLength t = eqb (length t) 0 || not (eqb (length t % recordBytes) 0) || ltb mostRecords (count t)
+
+-- 2: source or message too long
+abbrev pub tooLong : ℕ → ℕ → Bool
+tooLong n m = ltb mostSource n || ltb mostMessage m
+
+-- 3: the kind of record i is not listed
+abbrev pub unlisted : List ℕ → ℕ → Bool
+unlisted t i = not (isNode (kindAt t i) || isToken (kindAt t i))
+
+-- 4: record 0 is not a node of depth 0; or a later depth is 0, is over the previous depth plus 1, or is over the depth of a token just before
+unfoldable pub misplaced : List ℕ → ℕ → Bool
+misplaced t zero = not (isNode (kindAt t 0) && eqb (depthAt t 0) 0)
+misplaced t (suc i) =
+    eqb (depthAt t (suc i)) 0
+    || ltb (depthAt t i + 1) (depthAt t (suc i))
+    || (isToken (kindAt t i) && ltb (depthAt t i) (depthAt t (suc i)))
+
+-- 5: the depth of record i is over 63
+abbrev pub tooDeep : List ℕ → ℕ → Bool
+tooDeep t i = ltb mostDepth (depthAt t i)
+
+-- the end of the last token before record i, 0 where there is none
+unfoldable pub lastEnd : List ℕ → ℕ → ℕ
+lastEnd t zero = 0
+lastEnd t (suc i) = cond (isToken (kindAt t i)) (endAt t i) (lastEnd t i)
+
+-- 6: record i is a token with start > end, end past the source, or start before the previous token's end
+unfoldable pub badSpan : List ℕ → ℕ → ℕ → Bool
+badSpan t n i =
+    isToken (kindAt t i)
+    && (ltb (endAt t i) (startAt t i) || ltb n (endAt t i) || ltb (startAt t i) (lastEnd t i))
+
+-- 8: record i is no node of the table
+abbrev pub noRoot : List ℕ → ℕ → Bool
+noRoot t i = not (ltb i (count t) && isNode (kindAt t i))
+
+-- ---- the rules: each condition with its number and its detail
+
+pub record Rule : Type 0 where
+  pub number : ℕ
+  pub detail : ℕ
+  pub broken : Bool
+
+abbrev pub rule : ℕ → ℕ → Bool → Rule
+rule k d b = record { number = k; detail = d; broken = b }
+
+-- of record i: 3, 4, 5, 6
+abbrev pub rulesAt : List ℕ → ℕ → ℕ → List Rule
+rulesAt t n i =
+    rule 3 i (unlisted t i) ∷ rule 4 i (misplaced t i) ∷ rule 5 i (tooDeep t i) ∷ rule 6 i (badSpan t n i) ∷ []
+
+-- of c records from record i on, record by record
+unfoldable pub rulesFrom : List ℕ → ℕ → ℕ → ℕ → List Rule
+rulesFrom t n i zero = []
+rulesFrom t n i (suc c) = rulesAt t n i ++ rulesFrom t n (suc i) c
+
+-- the order: 1, 2, then record by record 3, 4, 5, 6
+abbrev pub rules : List ℕ → ℕ → ℕ → List Rule
+rules t n m = rule 1 0 (badLength t) ∷ rule 2 0 (tooLong n m) ∷ rulesFrom t n 0 (count t)
+
+-- then 8, where the question names a root
+abbrev pub rootRules : List ℕ → ℕ → ℕ → List Rule
+rootRules t n i = rules t n 0 ++ rule 8 0 (noRoot t i) ∷ []
+
+-- ---- the verdict: the first rule that is broken
+abbrev pub first : List Rule → Verdict
+first [] = Admitted
+first (r ∷ rs) = cond (r .broken) (Refused (r .number) (r .detail)) (first rs)
+
+-- on a table, a source of n bytes and a message of m bytes
+unfoldable pub verdict : List ℕ → ℕ → ℕ → Verdict
+verdict t n m = first (rules t n m)
+
+-- on a table, a source of n bytes and the named root i
+unfoldable pub rootVerdict : List ℕ → ℕ → ℕ → Verdict
+rootVerdict t n i = first (rootRules t n i)

@@ -1,0 +1,52 @@
+-- How the check goes through the records: what it carries along, and what it finds at a record.
+-- Definitions only. A reader of the verdict needs none of them.
+use Prim.Native.Nat.{ℕ, zero, suc, _+_}
+use mathlib.Core.Bool.{Bool, cond, not, _&&_, _||_}
+use mathlib.Core.List.{List}
+use lib.Dec.{ltb, eqb}
+use Rattle.table.specs.declared.record.Rec.{Rec}
+use Rattle.table.specs.declared.check.Known.{Known}
+use Rattle.table.specs.declared.check.Found.{Found}
+use Rattle.table.specs.declared.check.Found.the-variants.{Next, Broken}
+use Rattle.table.specs.Kinds.{isNode, isToken}
+use Rattle.table.specs.Table.{kindAt, depthAt}
+use Rattle.table.specs.Rules.{mostDepth, lastEnd}
+
+-- how deep the record after one of kind k and depth d may be: one below a node, and no deeper than a token
+abbrev pub below : ℕ → ℕ → ℕ
+below k d = cond (isToken k) d (d + 1)
+
+-- how deep record i may be
+unfoldable pub deepest : List ℕ → ℕ → ℕ
+deepest t zero = 0
+deepest t (suc i) = below (kindAt t i) (depthAt t i)
+
+-- what is known before record i
+unfoldable pub knownAt : List ℕ → ℕ → Known
+knownAt t i = record { deepest = deepest t i; end = lastEnd t i }
+
+-- after a record
+unfoldable pub after : Known → Rec → Known
+after b r = record { deepest = below (r .kind) (r .depth); end = cond (isToken (r .kind)) (r .end) (b .end) }
+
+-- a kind that is not listed
+unfoldable pub strange : ℕ → Bool
+strange k = not (isNode k || isToken k)
+
+-- a record that is out of place
+unfoldable pub outOfPlace : Known → Rec → Bool
+outOfPlace b r =
+    cond (eqb (r .index) 0) (not (isNode (r .kind) && eqb (r .depth) 0)) (eqb (r .depth) 0 || ltb (b .deepest) (r .depth))
+
+-- a token with a bad span, for a source of n bytes
+unfoldable pub offSource : ℕ → Known → Rec → Bool
+offSource n b r = isToken (r .kind) && (ltb (r .end) (r .start) || ltb n (r .end) || ltb (r .start) (b .end))
+
+-- the number of the first rule that a record breaks, or what is known after it
+unfoldable pub stepOf : ℕ → Known → Rec → Found
+stepOf n b r =
+    cond (strange (r .kind)) (Broken 3)
+    (cond (outOfPlace b r) (Broken 4)
+    (cond (ltb mostDepth (r .depth)) (Broken 5)
+    (cond (offSource n b r) (Broken 6)
+    (Next (after b r)))))

@@ -1,0 +1,83 @@
+// A record is sixteen bytes, four 32-bit little-endian numbers: kind, depth, start, end.
+ghost use mathlib.Core.Path.{_≡_};
+ghost use Prim.Native.Nat.{_+_, _≤_, _<_};
+ghost use lib.ListN.{length};
+ghost use Rattle.table.specs.Table.{word, count, kindAt, depthAt, startAt, endAt, recordAt};
+
+pub const RECORD_BYTES: usize = 16;
+
+// A record with its number. The number goes with it however deep the part is that it was read from.
+pub struct Rec {
+    pub index: usize,
+    pub kind: usize,
+    pub depth: usize,
+    pub start: usize,
+    pub end: usize,
+}
+
+fn wide(x: u8) -> usize
+    ensures { λ r. ⌜ (r ≡ x) × (r < 256) ⌝ }
+{
+    x as usize
+}
+
+// The little-endian number in the four bytes from `at` on.
+fn word_at(t: &[u8], at: usize) -> usize
+    requires { ⌜ at + 4 ≤ length (now t) ⌝ }
+    ensures { λ r. ⌜ (r ≡ word (now (t .entry)) at) × (r < 4294967296) ⌝ }
+{
+    let a = wide(t[at]);
+    let b = wide(t[at + 1]);
+    let c = wide(t[at + 2]);
+    let d = wide(t[at + 3]);
+    a + b * 256 + c * 65536 + d * 16777216
+}
+
+// How many records t has.
+pub fn count_of(t: &[u8]) -> usize
+    ensures { λ r. ⌜ r ≡ count (now (t .entry)) ⌝ }
+{
+    t.len() / RECORD_BYTES
+}
+
+pub fn kind_at(t: &[u8], i: usize) -> usize
+    requires { ⌜ i < count (now t) ⌝ }
+    ensures { λ r. ⌜ (r ≡ kindAt (now (t .entry)) i) × (r < 4294967296) ⌝ }
+{
+    word_at(t, RECORD_BYTES * i)
+}
+
+pub fn depth_at(t: &[u8], i: usize) -> usize
+    requires { ⌜ i < count (now t) ⌝ }
+    ensures { λ r. ⌜ (r ≡ depthAt (now (t .entry)) i) × (r < 4294967296) ⌝ }
+{
+    word_at(t, RECORD_BYTES * i + 4)
+}
+
+pub fn start_at(t: &[u8], i: usize) -> usize
+    requires { ⌜ i < count (now t) ⌝ }
+    ensures { λ r. ⌜ (r ≡ startAt (now (t .entry)) i) × (r < 4294967296) ⌝ }
+{
+    word_at(t, RECORD_BYTES * i + 8)
+}
+
+pub fn end_at(t: &[u8], i: usize) -> usize
+    requires { ⌜ i < count (now t) ⌝ }
+    ensures { λ r. ⌜ (r ≡ endAt (now (t .entry)) i) × (r < 4294967296) ⌝ }
+{
+    word_at(t, RECORD_BYTES * i + 12)
+}
+
+// Record i of t, where t's first record has the number base.
+pub fn record_at(t: &[u8], base: usize, i: usize) -> Rec
+    requires { ⌜ (i < count (now t)) × (base + i < 4294967296) ⌝ }
+    ensures { λ r. ⌜ r ≡ recordAt (now (t .entry)) base i ⌝ }
+{
+    Rec {
+        index: base + i,
+        kind: kind_at(t, i),
+        depth: depth_at(t, i),
+        start: start_at(t, i),
+        end: end_at(t, i),
+    }
+}

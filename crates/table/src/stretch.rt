@@ -1,0 +1,68 @@
+// A subtree is the stretch of records from its node. What is below a node is handed on as a part of the table.
+use crate::record::RECORD_BYTES;
+use crate::record::depth_at;
+ghost use mathlib.Core.Path.{_≡_};
+ghost use Prim.Native.Nat.{_+_, _-_, _*_, _≤_, _<_};
+ghost use lib.ListN.{length, drop};
+ghost use Rattle.table.specs.Table.{recordBytes, count, part};
+ghost use Rattle.table.specs.Forest.{stretchEnd, Child};
+
+// The first record after i that is not deeper than i, or the count of records.
+pub fn stretch_end(t: &[u8], i: usize) -> usize
+    requires { ⌜ i < count (now t) ⌝ }
+    ensures { λ r. ⌜ (r ≡ stretchEnd (now (t .entry)) i) × (i < r) × (r ≤ count (now (t .entry))) ⌝ }
+{
+    let n = t.len() / RECORD_BYTES;
+    let k = depth_at(t, i);
+    let mut j = i + 1;
+    while j < n {
+        if depth_at(t, j) <= k {
+            return j;
+        }
+        j += 1;
+    }
+    j
+}
+
+// The stretch of record i: its record and what is below it.
+pub fn stretch_of(t: &[u8], i: usize) -> &[u8]
+    requires { ⌜ i < count (now t) ⌝ }
+    ensures { λ r. ⌜ (now r ≡ part (now (t .entry)) i (stretchEnd (now (t .entry)) i))
+        × (length (now r) ≡ recordBytes * (stretchEnd (now (t .entry)) i - i))
+        × (i < stretchEnd (now (t .entry)) i) × (stretchEnd (now (t .entry)) i ≤ count (now (t .entry))) ⌝ }
+{
+    let e = stretch_end(t, i);
+    let a = RECORD_BYTES * i;
+    let b = RECORD_BYTES * e;
+    &t[a..b]
+}
+
+// The rest of the table from record i on. Its first record's children are those of the stretch.
+pub fn rest_from(t: &[u8], i: usize) -> &[u8]
+    requires { ⌜ i < count (now t) ⌝ }
+    ensures { λ r. ⌜ (now r ≡ drop (recordBytes * i) (now (t .entry))) × (length (now r) ≡ length (now (t .entry)) - recordBytes * i) ⌝ }
+{
+    let a = RECORD_BYTES * i;
+    &t[a..]
+}
+
+// The first child of t's first record at or after record j, or the count of records.
+pub fn child_from(t: &[u8], j: usize) -> usize
+    requires { ⌜ (1 ≤ j) × (j ≤ count (now t)) ⌝ }
+    ensures { λ r. ⌜ Child (now (t .entry)) j r ⌝ }
+{
+    let m = t.len() / RECORD_BYTES;
+    let k = depth_at(t, 0) + 1;
+    let mut i = j;
+    while i < m {
+        let d = depth_at(t, i);
+        if d < k {
+            return m;
+        }
+        if d == k {
+            return i;
+        }
+        i += 1;
+    }
+    i
+}
