@@ -4,3 +4,4 @@ pub mod Scans
 pub mod Descents
 pub mod Checks
 pub mod Writes
+pub mod Exactly

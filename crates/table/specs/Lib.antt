@@ -2,6 +2,7 @@ pub mod Kinds
 pub mod Table
 pub mod Forest
 pub mod Rules
+pub mod Exactly
 pub mod Lists
 pub mod Scan
 pub mod Descent
