@@ -23,7 +23,7 @@ use Rattle.table.specs.Rules.{mostRecords, mostDepth, mostSource, mostMe
 use Rattle.table.specs.Exactly.{Broken, broken-1, broken-2, broken-3, broken-4, broken-5, broken-6, place, Least, Node, Token, BadLength, TooLong, Unlisted, MisplacedFirst, MisplacedLater, TooDeep, LastToken, EndsAfter, BadSpan}
 use Rattle.table.proofs.Laws.{lt-or-le}
 
-clash : {b : Bool} → b ≡ false → b ≡ true → ⊥
+pub clash : {b : Bool} → b ≡ false → b ≡ true → ⊥
 clash p q = let z : _≡_ {A = ℕ} 0 1 = cc in omega arith
 
 module _ (t : List ℕ) (n m : ℕ) where
@@ -268,10 +268,10 @@ both : (a b : Bool) → (a && b) ≡ true → (a ≡ true) × (b ≡ true)
 both true b e = (refl, e)
 both false b e = absurd (clash refl e)
 
-token→ : (k : ℕ) → isToken k ≡ true → Token k
+pub token→ : (k : ℕ) → isToken k ≡ true → Token k
 token→ k e = let b = both (leb otherToken k) _ e in (leb-true otherToken k (b .0), leb-true k arrow (b .1))
 
-token← : (k : ℕ) → Token k → isToken k ≡ true
+pub token← : (k : ℕ) → Token k → isToken k ≡ true
 token← k h = rw (le-leb otherToken k (h .0), le-leb k arrow (h .1))
 
 not-yes : (a : Bool) → (a ≡ true → ⊥) → not a ≡ true
@@ -381,10 +381,10 @@ pub too-deep : (t : List ℕ) (i : ℕ) → (tooDeep t i ≡ true) ↔ TooDeep t
 too-deep t i = (ltb-true mostDepth (depthAt t i), lt-ltb mostDepth (depthAt t i))
 
 -- a number is below the last token's end exactly where there is a last token that ends after it
-ends→ : (t : List ℕ) (i x : ℕ) → x < lastEnd t i → EndsAfter t i x
+pub ends-after : (t : List ℕ) (i x : ℕ) → x < lastEnd t i → EndsAfter t i x
 unfolding lastEnd
-ends→ t zero x h = absurd (omega arith)
-ends→ t (suc i) x h = go (isToken (kindAt t i)) refl h (ends→ t i x)
+ends-after t zero x h = absurd (omega arith)
+ends-after t (suc i) x h = go (isToken (kindAt t i)) refl h (ends-after t i x)
   where
     go : (b : Bool) → isToken (kindAt t i) ≡ b → x < cond b (endAt t i) (lastEnd t i) → (x < lastEnd t i → EndsAfter t i x) → EndsAfter t (suc i) x
     go true e h ih = record { previous = i; last = record { before = omega arith; token = token→ (kindAt t i) e; last = λ k p q w. omega arith }; inside = h }
@@ -403,10 +403,10 @@ ends→ t (suc i) x h = go (isToken (kindAt t i)) refl h (ends→ t i x)
             (λ g. let z : k ≡ i = omega arith in clash e (token← (kindAt t i) (rw z at w)))
             (lt-or-le k i)
 
-ends← : (t : List ℕ) (i x : ℕ) → EndsAfter t i x → x < lastEnd t i
+ends-before : (t : List ℕ) (i x : ℕ) → EndsAfter t i x → x < lastEnd t i
 unfolding lastEnd
-ends← t zero x s = absurd (omega (arith, s .last .before))
-ends← t (suc i) x s = go (isToken (kindAt t i)) refl (ends← t i x)
+ends-before t zero x s = absurd (omega (arith, s .last .before))
+ends-before t (suc i) x s = go (isToken (kindAt t i)) refl (ends-before t i x)
   where
     go : (b : Bool) → isToken (kindAt t i) ≡ b → (EndsAfter t i x → x < lastEnd t i) → x < cond b (endAt t i) (lastEnd t i)
     go true e ih =
@@ -434,7 +434,7 @@ bad-span t n i = (to, back)
               (λ y. inl (ltb-true (endAt t i) (startAt t i) y))
               (λ y. inr (inl (ltb-true n (endAt t i) y)))
               (or-either (ltb (endAt t i) (startAt t i)) (ltb n (endAt t i)) x))
-              (λ x. inr (inr (ends→ t i (startAt t i) (ltb-true (startAt t i) (lastEnd t i) x))))
+              (λ x. inr (inr (ends-after t i (startAt t i) (ltb-true (startAt t i) (lastEnd t i) x))))
               (or-either (ltb (endAt t i) (startAt t i) || ltb n (endAt t i)) (ltb (startAt t i) (lastEnd t i)) (b .1)),
         )
 
@@ -443,7 +443,7 @@ bad-span t n i = (to, back)
     spans (inr (inl h)) = or-left _ (ltb (startAt t i) (lastEnd t i)) (or-right (ltb (endAt t i) (startAt t i)) _ (lt-ltb n (endAt t i) h))
     spans (inr (inr h)) =
         or-right (ltb (endAt t i) (startAt t i) || ltb n (endAt t i)) _
-        (lt-ltb (startAt t i) (lastEnd t i) (ends← t i (startAt t i) h))
+        (lt-ltb (startAt t i) (lastEnd t i) (ends-before t i (startAt t i) h))
 
     back : BadSpan t n i → badSpan t n i ≡ true
     back h = rw (token← (kindAt t i) (h .0)) (spans (h .1))

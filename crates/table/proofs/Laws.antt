@@ -7,8 +7,8 @@ use mathlib.Core.List.{List, [], _∷_}
 use Prim.Native.Nat.{ℕ, zero, suc, _+_, _-_, _*_, _≤_, _<_}
 use native.Mathlib.Nat.{sub-eq-zero-of-le, add-zero, sub-zero, zero-sub, zero-add, add-assoc, le-of-lt}
 use native.Mathlib.Omega.{arith}
-use borrow.Author.Tests.{lt-ltb, le-ltb, le-leb, lt-leb, ltb-true, ltb-false, leb-true, leb-false}
-use lib.Dec.{ltb, leb}
+use borrow.Author.Tests.{lt-ltb, le-ltb, le-leb, lt-leb, ltb-true, ltb-false, eqb-true, eqb-false}
+use lib.Dec.{ltb, eqb}
 use lib.ListN.{getD, take, drop, length-take, length-drop}
 use lib.Seq.{getD-take, getD-drop}
 use Rattle.table.specs.declared.record.Rec.{Rec}
@@ -50,6 +50,13 @@ lt-or-le a b = go (ltb a b) refl
     go : (t : Bool) → ltb a b ≡ t → (a < b) ⊎ (b ≤ a)
     go true e = inl (ltb-true a b e)
     go false e = inr (ltb-false a b e)
+
+pub eq-or-not : (a b : ℕ) → (a ≡ b) ⊎ (a ≡ b → ⊥)
+eq-or-not a b = go (eqb a b) refl
+  where
+    go : (t : Bool) → eqb a b ≡ t → (a ≡ b) ⊎ (a ≡ b → ⊥)
+    go true e = inl (eqb-true a b e)
+    go false e = inr (eqb-false a b e)
 
 -- what the walks take for a node, and for a token
 pub node-or-token : (k : ℕ) → (k ≤ lastNode) ⊎ (lastNode < k)

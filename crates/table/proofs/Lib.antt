@@ -5,3 +5,4 @@ pub mod Descents
 pub mod Checks
 pub mod Writes
 pub mod Exactly
+pub mod Sense

@@ -3,6 +3,7 @@ pub mod Table
 pub mod Forest
 pub mod Rules
 pub mod Exactly
+pub mod Sense
 pub mod Lists
 pub mod Scan
 pub mod Descent
