@@ -286,7 +286,7 @@ module _ (t : List ℕ) (base k i : ℕ) where
     end-within = omega (arith, extent-le (depthAt t i) t 0 (i + 1) (count t - (i + 1)))
 
     -- the level below sees the stretch alone, which is what the part's records say of the part
-    kids-part : depthAt t i ≡ k → kids (records (base + i) (part t i (stretchEnd t i))) ≡ level (k + 1) (from t base (i + 1))
+    pub kids-part : depthAt t i ≡ k → kids (records (base + i) (part t i (stretchEnd t i))) ≡ level (k + 1) (from t base (i + 1))
     kids-part d =
         let rs : List Rec = from t base (i + 1) in
         let e : stretchEnd t i - i ≡ suc (extent k rs) = omega (arith, end-is d) in

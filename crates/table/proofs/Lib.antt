@@ -6,3 +6,5 @@ pub mod Checks
 pub mod Writes
 pub mod Exactly
 pub mod Sense
+pub mod Places
+pub mod Texts

@@ -115,7 +115,7 @@ module _ (t : List ℕ) (n m : ℕ) (v : verdict t n m ≡ Admitted) where
           let w = token→ (kindAt t j) e in
           ⊎-elim
           (λ q. omega (arith, ih q (omega arith) k, after-last j h w, forward j h w))
-          (λ q. let z : i ≡ j = omega arith in rw z (omega arith))
+          (λ (q : j ≤ i). let z : i ≡ j = omega arith in omega (arith, ap (endAt t) z))
           (lt-or-le i j)
       go false e ih =
           ⊎-elim

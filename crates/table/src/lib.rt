@@ -4,3 +4,4 @@ pub mod kinds;
 pub mod list;
 pub mod record;
 pub mod stretch;
+pub mod text;

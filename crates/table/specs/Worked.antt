@@ -1,0 +1,119 @@
+-- Worked cases of the check and of lists, computed: document 01's cases marked P that speak of them, and a row for each refusal and each detail.
+use Prim.Native.Nat.{ℕ, zero, suc, _+_, _*_}
+use mathlib.Core.Path.{_≡_, refl}
+use mathlib.Core.List.{List, [], _∷_, _++_}
+use lib.ListN.{replicate}
+use lib.Dec.{eqb}
+use Rattle.table.specs.declared.check.Verdict.{Verdict}
+use Rattle.table.specs.declared.check.Verdict.the-variants.{Admitted, Refused}
+use Rattle.table.specs.declared.list.Listed.the-variants.{Entries, Refused as Denied}
+use Rattle.table.specs.Kinds.{file, selectStatement, subqueryExpression, expression, otherToken, whitespace, bareWord, arrow}
+use Rattle.table.specs.Table.{word}
+use Rattle.table.specs.Rules.{misplaced, lastEnd, badSpan, rulesFrom, verdict, rootVerdict, rule}
+use Rattle.table.specs.Lists.{le4, rowBytes, listBytes, reply, buffer, listed, lent}
+
+-- the sixteen bytes of a record
+abbrev pub rec : ℕ → ℕ → ℕ → ℕ → List ℕ
+rec k d s e = le4 k ++ le4 d ++ le4 s ++ le4 e
+
+-- n nodes, each below the one before, the first of depth d
+pub chain : ℕ → ℕ → List ℕ
+chain d zero = []
+chain d (suc n) = rec 0 d 0 0 ++ chain (d + 1) n
+
+-- a root, and below it a token, a node and a token below that
+abbrev small : List ℕ
+small = rec file 0 0 9 ++ rec bareWord 1 0 4 ++ rec selectStatement 1 4294967295 0 ++ rec arrow 2 4 9
+
+-- a case of the check: a table, the lengths of its source and of a message, and the verdict
+record Case : Type 0 where
+  table : List ℕ
+  source : ℕ
+  message : ℕ
+  says : Verdict
+
+abbrev on : List ℕ → ℕ → Verdict → Case
+on t n v = record { table = t; source = n; message = 0; says = v }
+
+cases : List Case
+cases =
+    -- depth 63 passes, 64 below a 63 is 5, depth 3 below 1 is 4
+    on (chain 0 64) 0 Admitted ∷
+    on (chain 0 65) 0 (Refused 5 64) ∷
+    on (rec file 0 0 0 ++ rec 0 1 0 0 ++ rec 0 3 0 0) 0 (Refused 4 2) ∷
+    -- a token that ends at the source's length passes, one more is 6
+    on small 9 Admitted ∷
+    on small 8 (Refused 6 3) ∷
+    -- 1: no bytes, no whole record, over 4,096 records
+    on [] 0 (Refused 1 0) ∷
+    on (replicate 15 0) 0 (Refused 1 0) ∷
+    on (replicate 17 0) 0 (Refused 1 0) ∷
+    on (replicate 65552 0) 0 (Refused 1 0) ∷
+    -- 2: the source, the message; 1 comes before it
+    on small 65536 Admitted ∷
+    on small 65537 (Refused 2 0) ∷
+    record { table = small; source = 9; message = 4096; says = Admitted } ∷
+    record { table = small; source = 9; message = 4097; says = Refused 2 0 } ∷
+    on [] 65537 (Refused 1 0) ∷
+    -- 3: kinds that are not listed, and the last and first that are; 32 bits count
+    on (rec 56 0 0 0) 0 (Refused 3 0) ∷
+    on (rec file 0 0 0 ++ rec 127 1 0 0) 0 (Refused 3 1) ∷
+    on (rec file 0 0 0 ++ rec 158 1 0 0) 0 (Refused 3 1) ∷
+    on (rec 257 0 0 0) 0 (Refused 3 0) ∷
+    on (rec 4294967295 0 0 0) 0 (Refused 3 0) ∷
+    on (rec expression 0 0 0 ++ rec otherToken 1 0 0 ++ rec arrow 1 0 0) 0 Admitted ∷
+    -- 3 comes before 4, 5 and 6 of one record, and an earlier record before all
+    on (rec file 0 0 0 ++ rec 158 0 2 1) 0 (Refused 3 1) ∷
+    on (rec file 0 0 0 ++ rec bareWord 1 2 1 ++ rec 56 1 0 0) 9 (Refused 6 1) ∷
+    -- 4: record 0 a token, or deep; a later depth 0; a record below a token, also one of depth 63
+    on (rec bareWord 0 0 0) 0 (Refused 4 0) ∷
+    on (rec file 1 0 0) 0 (Refused 4 0) ∷
+    on (rec file 0 0 0 ++ rec file 0 0 0) 0 (Refused 4 1) ∷
+    on (rec file 0 0 0 ++ rec bareWord 1 0 0 ++ rec file 2 0 0) 0 (Refused 4 2) ∷
+    on (chain 0 63 ++ rec bareWord 63 0 0 ++ rec file 64 0 0) 0 (Refused 4 64) ∷
+    on (rec file 0 0 0 ++ rec file 257 0 0) 0 (Refused 4 1) ∷
+    -- 6: start > end; before the previous token's end, also past a node; a token of no length passes, and node spans hold any numbers
+    on (rec file 0 0 0 ++ rec bareWord 1 2 1) 9 (Refused 6 1) ∷
+    on (rec file 0 0 0 ++ rec bareWord 1 0 5 ++ rec file 1 0 0 ++ rec bareWord 2 4 6) 9 (Refused 6 3) ∷
+    on (rec file 0 9 3 ++ rec bareWord 1 4 4 ++ rec whitespace 1 4 4) 4 Admitted ∷
+    []
+
+tells : List Case → List Verdict
+tells [] = []
+tells (c ∷ cs) = verdict (c .table) (c .source) (c .message) ∷ tells cs
+
+expects : List Case → List Verdict
+expects [] = []
+expects (c ∷ cs) = c .says ∷ expects cs
+
+the-check : tells cases ≡ expects cases
+unfolding cases tells expects chain verdict rulesFrom misplaced badSpan lastEnd word
+the-check = refl
+
+-- ---- 8, after 6: a node, a token, no record, and a table that is refused before
+
+roots : rootVerdict small 9 2 ∷ rootVerdict small 9 3 ∷ rootVerdict small 9 4 ∷ rootVerdict small 8 4 ∷ [] ≡ Admitted ∷ Refused 8 0 ∷ Refused 8 0 ∷ Refused 6 3 ∷ []
+unfolding rootVerdict rulesFrom misplaced badSpan lastEnd word
+roots = refl
+
+-- ---- 7, after all: two entries of two numbers, in seventeen bytes, sixteen and fifteen, and refused by another rule before
+
+abbrev pair : ℕ → List ℕ
+pair x = x ∷ 258 ∷ []
+
+fits : (listed [] pair (1 ∷ 2 ∷ []) (replicate 17 9) ≡ Entries 2)
+    × (lent [] pair (1 ∷ 2 ∷ []) (replicate 17 9) ≡ 1 ∷ 0 ∷ 0 ∷ 0 ∷ 2 ∷ 1 ∷ 0 ∷ 0 ∷ 2 ∷ 0 ∷ 0 ∷ 0 ∷ 2 ∷ 1 ∷ 0 ∷ 0 ∷ 9 ∷ [])
+unfolding listed lent reply buffer listBytes rowBytes
+fits = (refl, refl)
+
+full : listed [] pair (1 ∷ 2 ∷ []) (replicate 16 9) ≡ Entries 2
+unfolding listed reply listBytes rowBytes
+full = refl
+
+short : (listed [] pair (1 ∷ 2 ∷ []) (replicate 15 9) ≡ Denied 7 2) × (lent [] pair (1 ∷ 2 ∷ []) (replicate 15 9) ≡ replicate 15 9)
+unfolding listed lent reply buffer listBytes rowBytes
+short = (refl, refl)
+
+refused : (listed (rule 8 0 (eqb 1 1) ∷ []) pair (1 ∷ []) [] ≡ Denied 8 0)
+unfolding listed reply listBytes rowBytes
+refused = refl
