@@ -125,7 +125,7 @@ run-same t u b c i j (suc n) h =
     run-same t u b c (i + 1) (j + 1) n (λ m l. simp (suc-plus i m, suc-plus j m) at (h (suc m) (omega arith))) in
     rw (e, r)
 
-extent-run : (k : ℕ) (t : List ℕ) (b c i n : ℕ) → extent k (run t b i n) ≡ extent k (run t c i n)
+pub extent-run : (k : ℕ) (t : List ℕ) (b c i n : ℕ) → extent k (run t b i n) ≡ extent k (run t c i n)
 unfolding run extent recordAt
 extent-run k t b c i zero = refl
 extent-run k t b c i (suc n) = rw (extent-run k t b c (i + 1) n)

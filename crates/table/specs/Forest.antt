@@ -55,3 +55,10 @@ pub record Child (t : List ℕ) (j r : ℕ) : Type 0 where
   pub within : r ≤ count t
   pub depth : r < count t → depthAt t r ≡ depthAt t 0 + 1
   pub same : (base : ℕ) → children t base j ≡ children t base r
+
+-- what a step along a level finds: from record j on, record r is the first that is not deeper than k, or there is none and r is the count
+pub record Reached (t : List ℕ) (k j r : ℕ) : Type 0 where
+  pub on : j ≤ r
+  pub within : r ≤ count t
+  pub depth : r < count t → depthAt t r ≤ k
+  pub passed : (i : ℕ) → j ≤ i → i < r → k < depthAt t i

@@ -5,7 +5,7 @@ ghost use mathlib.Core.Path.{_≡_};
 ghost use Prim.Native.Nat.{_+_, _-_, _*_, _≤_, _<_};
 ghost use lib.ListN.{length, drop};
 ghost use Rattle.table.specs.Table.{recordBytes, count, part};
-ghost use Rattle.table.specs.Forest.{stretchEnd, Child};
+ghost use Rattle.table.specs.Forest.{stretchEnd, Child, Reached};
 
 // The first record after i that is not deeper than i, or the count of records.
 pub fn stretch_end(t: &[u8], i: usize) -> usize
@@ -60,6 +60,22 @@ pub fn child_from(t: &[u8], j: usize) -> usize
             return m;
         }
         if d == k {
+            return i;
+        }
+        i += 1;
+    }
+    i
+}
+
+// The first record at or after j that is not deeper than k, or the count of records.
+pub fn level_from(t: &[u8], k: usize, j: usize) -> usize
+    requires { ⌜ j ≤ count (now t) ⌝ }
+    ensures { λ r. ⌜ Reached (now (t .entry)) k j r ⌝ }
+{
+    let m = t.len() / RECORD_BYTES;
+    let mut i = j;
+    while i < m {
+        if depth_at(t, i) <= k {
             return i;
         }
         i += 1;
