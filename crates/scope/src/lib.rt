@@ -1,2 +1,3 @@
-// The answers that need no cursor.
+// The answers that need no cursor: token classes and brackets.
 pub mod keywords;
+pub mod semantic_tokens;

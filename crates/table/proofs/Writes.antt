@@ -5,7 +5,8 @@
 --     writing-turn, writing-last    some of it is written; the last of it is
 --     writing-step, writing-end     the same where what is left to write keeps its form
 --     list-refused                  a question that its own rules refuse
---     list-written, list-denied     counted on an empty part of the buffer, then written, or refused for want of room
+--     list-filled, list-short       all entries are written; they are counted, and have no room
+--     list-written, list-denied     the same where they are counted on an empty part of the buffer itself
 -- Assumes nothing.
 use mathlib.Core.Path.{_≡_, refl, sym, ap, _∙_}
 use mathlib.Core.Bool.{cond}
@@ -145,6 +146,21 @@ module _ {E : Type 0} (row : E → List ℕ) where
 
     entries-of : (es : List E) (m : ℕ) → 0 < w → m ≡ length (listBytes row es) → m / w ≡ length es
     entries-of es m p q = rw (q, length-wide es) (mul-div-cancel (length es) p)
+
+    module _ (p : 0 < w) (rs : List Rule) (es : List E) (out : List ℕ) (ok : Admitted ≡ first rs) where
+      -- all entries are written, and had room
+      pub list-filled : {out′ : List ℕ} {m : ℕ} → Written row es out 0 out′ m → m ≤ length out → (Entries (m / w) ≡ listed rs row es out) × (out′ ≡ lent rs row es out)
+      unfolding listed lent reply buffer
+      list-filled {out′} {m} c h =
+          let v = listed-room rs es out ok (omega (arith, c .next)) in
+          (rw (← v, entries-of es m p (omega (arith, c .next))), rw (← v) (written-whole c (omega (arith, c .next))))
+
+      -- they were counted, and have no room
+      pub list-short : {e e′ : List ℕ} {m : ℕ} → Written row es e 0 e′ m → length out < m → (Denied 7 (m / w) ≡ listed rs row es out) × (out ≡ lent rs row es out)
+      unfolding listed lent reply buffer
+      list-short {e} {e′} {m} c h =
+          let v = listed-short rs es out ok (omega (arith, c .next)) in
+          (rw (← v, entries-of es m p (omega (arith, c .next))), rw (← v))
 
     -- a function that counts by a call on an empty part of out, `&mut out[..0]`, and calls again to write if all have room
     module _ (p : 0 < w) (rs : List Rule) (es : List E) (out : List ℕ) (ok : Admitted ≡ first rs) {e l : List ℕ} {m : ℕ}

@@ -1,0 +1,131 @@
+// Token classes: what colour each token has, by its kind, its direct parent's kind and, for a bareword, the keywords.
+use crate::keywords::keyword_in;
+use crate::keywords::Starts;
+use crate::keywords::KEYWORDS;
+use crate::keywords::STARTS;
+use table::check::check;
+use table::check::Verdict;
+use table::kinds::BARE_WORD;
+use table::kinds::COMMENT;
+use table::kinds::LAST_NODE;
+use table::kinds::QUOTED_IDENTIFIER;
+use table::list::put_entry;
+use table::list::Listed;
+use table::list::NUMBER_BYTES;
+use table::record::count_of;
+use table::record::depth_at;
+use table::record::end_at;
+use table::record::kind_at;
+use table::record::start_at;
+use table::stretch::level_from;
+use table::stretch::rest_from;
+use table::text::text_of;
+ghost use mathlib.Core.Path.{_≡_};
+ghost use mathlib.Core.Bool.{Bool, false};
+ghost use Prim.Native.Nat.{ℕ, _+_, _*_, _≤_, _<_};
+ghost use lib.ListN.{length};
+ghost use Rattle.table.specs.Table.{count, records, kindAt, startAt, endAt};
+ghost use Rattle.table.specs.Forest.{kids, stretchEnd};
+ghost use Rattle.table.specs.Rules.{mostRecords, rules};
+ghost use Rattle.table.specs.Lists.{Written, listed, lent};
+ghost use Rattle.scope.specs.KeywordTable.{Lent};
+ghost use Rattle.scope.specs.Classes.{byParent, judged, bareword, numberOf};
+
+// The classes by document 01's numbers, 0 to 9, and none.
+pub enum TokenClass {
+    Keyword,
+    Function,
+    StringLiteral,
+    Number,
+    Comment,
+    Operator,
+    Variable,
+    TypeName,
+    Parameter,
+    Property,
+    Unclassed,
+}
+
+// An entry of the list: where a token stands, and the number of its class.
+pub struct ClassedToken {
+    pub start: usize,
+    pub end: usize,
+    pub class: usize,
+}
+
+// How far a walk is: the byte of the next entry, and how many records the walk looked at.
+pub struct Walked {
+    pub at: usize,
+    pub used: usize,
+}
+
+// How many bytes an entry takes: three numbers.
+const ENTRY_BYTES: usize = 3 * NUMBER_BYTES;
+
+// What a token without a class has in place of a number.
+const UNCLASSED: usize = 10;
+
+fn number_of(c: TokenClass) -> usize
+    ensures { λ r. ⌜ r ≡ numberOf c ⌝ }
+{
+    match c {
+        TokenClass::Keyword => 0,
+        TokenClass::Function => 1,
+        TokenClass::StringLiteral => 2,
+        TokenClass::Number => 3,
+        TokenClass::Comment => 4,
+        TokenClass::Operator => 5,
+        TokenClass::Variable => 6,
+        TokenClass::TypeName => 7,
+        TokenClass::Parameter => 8,
+        TokenClass::Property => 9,
+        TokenClass::Unclassed => UNCLASSED,
+    }
+}
+
+fn classify_identifier_by_parent(parent: usize) -> TokenClass
+    ensures { λ r. ⌜ r ≡ byParent parent ⌝ }
+{
+    match parent {
+        43..=45 => TokenClass::Function,
+        40..=42 => TokenClass::TypeName,
+        33..=35 => TokenClass::Property,
+        50..=51 => TokenClass::Property,
+        _ => TokenClass::Variable,
+    }
+}
+
+// The class of a bareword that is no keyword: its parent's kind alone decides.
+fn classify_plain_word(parent: usize) -> TokenClass
+    ensures { λ r. ⌜ r ≡ judged false parent ⌝ }
+{
+    match parent {
+        40..=42 => TokenClass::TypeName,
+        43..=45 => TokenClass::Function,
+        33..=35 => TokenClass::Property,
+        50..=54 => TokenClass::Property,
+        49 => TokenClass::Parameter,
+        46..=48 => TokenClass::Variable,
+        36 => TokenClass::Variable,
+        55 => TokenClass::Variable,
+        _ => TokenClass::Unclassed,
+    }
+}
+
+// The keyword table is lent: naming it here would copy it for each word.
+fn classify_bareword(words: &[u8], starts: &Starts, text: &[u8], parent: usize) -> TokenClass
+    requires { ⌜ Lent (now words) (now starts) ⌝ }
+    ensures { λ r. ⌜ r ≡ bareword (now (text .entry)) parent ⌝ }
+{
+    match parent {
+        40..=42 => TokenClass::TypeName,
+        49 => TokenClass::Parameter,
+        _ => {
+            if keyword_in(words, starts, text) {
+                TokenClass::Keyword
+            } else {
+                classify_plain_word(parent)
+            }
+        }
+    }
+}
