@@ -1,15 +1,24 @@
 -- What a parent's kind makes of a word, range by range.
 -- Assumes nothing.
-use Prim.Native.Nat.{ℕ, _≤_, _<_}
+use Prim.Native.Nat.{ℕ, _+_, _*_, _≤_, _<_}
 use mathlib.Core.Path.{_≡_, refl, sym, _∙_}
 use mathlib.Core.Bool.{Bool, true, false, cond, _&&_}
+use mathlib.Core.List.{List, [], _∷_, _++_}
 use mathlib.Core.Logic.{⊎-elim}
 use native.Mathlib.Omega.{arith}
 use borrow.Author.Tests.{le-leb, lt-leb, eq-eqb, ne-eqb}
 use lib.Dec.{leb}
+use lib.ListN.{drop}
+use Rattle.table.specs.Table.{recordBytes, count, kindAt, startAt, endAt, recordAt}
+use Rattle.table.specs.Forest.{Forest, nil, token, node}
+use Rattle.table.specs.Text.{text}
+use Rattle.table.specs.Lists.{numberBytes, put, Written}
 use Rattle.table.proofs.Laws.{lt-or-le}
+use Rattle.table.proofs.Visits.{rest-kind}
+use Rattle.table.proofs.Writes.{written-none, written-one}
 use Rattle.scope.specs.declared.semantic_tokens.TokenClass.the-variants.{Keyword, Function, StringLiteral, Number, Comment, Operator, Variable, TypeName, Parameter, Property, Unclassed}
-use Rattle.scope.specs.Classes.{between, judged, byParent}
+use Rattle.scope.specs.declared.semantic_tokens.TokenClass.{TokenClass}
+use Rattle.scope.specs.Classes.{between, judged, bareword, byParent, classOf, numberOf, entryOf, row, classes}
 
 pub inside : (a b k : ℕ) → a ≤ k → k ≤ b → between a b k ≡ true
 unfolding between
@@ -108,3 +117,60 @@ module _ (p : ℕ) where
         ne-eqb p 49 y,
         ne-eqb p 55 z,
       )
+
+-- ---- a token, by its kind
+module _ (source : List ℕ) (p k a b : ℕ) where
+  pub token-comment : k ≡ 130 → Comment ≡ classOf source p k a b
+  unfolding classOf
+  token-comment e = rw e
+
+  pub token-number : k ≡ 133 → Number ≡ classOf source p k a b
+  unfolding classOf
+  token-number e = rw e
+
+  pub token-quoted : {c : TokenClass} → k ≡ 132 → c ≡ byParent p → c ≡ classOf source p k a b
+  unfolding classOf between
+  token-quoted e q = rw e q
+
+  pub token-word : {c : TokenClass} {w : List ℕ} → k ≡ 131 → w ≡ text source a b → c ≡ bareword w p → c ≡ classOf source p k a b
+  unfolding classOf between
+  token-word e t q = rw e (rw t at q)
+
+  pub token-string : 134 ≤ k → k ≤ 135 → StringLiteral ≡ classOf source p k a b
+  unfolding classOf
+  token-string h g = rw (ne-eqb k 130 (λ e. omega arith), ne-eqb k 133 (λ e. omega arith), inside 134 135 k h g)
+
+  pub token-operator : 143 ≤ k → k ≤ 157 → Operator ≡ classOf source p k a b
+  unfolding classOf
+  token-operator h g =
+      rw (ne-eqb k 130 (λ e. omega arith), ne-eqb k 133 (λ e. omega arith), outside 134 135 k (λ x y. omega arith), inside 143 157 k h g)
+
+  pub token-none : (k ≡ 130 → ⊥) → (k ≡ 133 → ⊥) → (k ≡ 132 → ⊥) → (k ≡ 131 → ⊥) → (134 ≤ k → k ≤ 135 → ⊥) → (143 ≤ k → k ≤ 157 → ⊥) → Unclassed ≡ classOf source p k a b
+  unfolding classOf
+  token-none c n q w s o = rw (ne-eqb k 130 c, ne-eqb k 133 n, outside 134 135 k s, outside 143 157 k o, ne-eqb k 132 q, ne-eqb k 131 w)
+
+-- ---- its entry
+module _ (c : TokenClass) (a b : ℕ) {n : ℕ} (e : n ≡ numberOf c) (out : List ℕ) (at : ℕ) where
+  pub class-none : n ≡ 10 → Written row (entryOf c a b) out at out at
+  unfolding entryOf numberOf
+  class-none h = rw (eq-eqb (numberOf c) 10 (sym e ∙ h)) (written-none row out at)
+
+  pub class-some : {out′ : List ℕ} {at′ : ℕ} → (n ≡ 10 → ⊥) → out′ ≡ put out at (a ∷ b ∷ n ∷ []) → at′ ≡ at + numberBytes * 3 → Written row (entryOf c a b) out at out′ at′
+  unfolding entryOf numberOf
+  class-some h q r = rw (ne-eqb (numberOf c) 10 (λ z. h (e ∙ z))) (written-one row (record { start = a; end = b; class = numberOf c }) out at (rw e at q) r)
+
+-- ---- what a turn of the walk adds
+pub class-nil : (source : List ℕ) (p : ℕ) → classes source p nil ≡ []
+unfolding classes
+class-nil source p = refl
+
+module _ (source s : List ℕ) (base i : ℕ) where
+  pub class-token : {c : TokenClass} {p k a b : ℕ} → c ≡ classOf source p k a b → p ≡ kindAt s 0 → k ≡ kindAt s i → a ≡ startAt s i → b ≡ endAt s i
+      → (f : Forest) → classes source (kindAt s 0) (token (recordAt s base i) f) ≡ entryOf c a b ++ classes source (kindAt s 0) f
+  unfolding classes recordAt
+  class-token e p k a b f = rw (e, p, k, a, b)
+
+  pub class-node : {p : List ℕ} (q : ℕ) → i < count s → p ≡ drop (recordBytes * i) s
+      → (below f : Forest) → classes source q (node (recordAt s base i) below f) ≡ classes source (kindAt p 0) below ++ classes source q f
+  unfolding classes recordAt
+  class-node q h e below f = rw (e, rest-kind s i h)

@@ -4,7 +4,6 @@ use Prim.Native.Nat.{ℕ}
 use mathlib.Core.Bool.{Bool, cond, not, _&&_, _||_}
 use mathlib.Core.List.{List, [], _∷_, _++_}
 use lib.Dec.{leb, eqb}
-use Rattle.table.specs.declared.record.Rec.{Rec}
 use Rattle.table.specs.Kinds.{tableIdentifier, tableAlias, columnAlias, dataType, nestedDataType, functionCall, tableFunction, identifier, qualifiedName, queryParameterExpression, databaseDefinition, tableDefinition, dictionaryDefinition, expression, comment, bareWord, quotedIdentifier, number, stringToken, hereDoc, plus, arrow}
 use Rattle.table.specs.Table.{kindAt, records}
 use Rattle.table.specs.Forest.{Forest, nil, token, node, kids}
@@ -60,15 +59,15 @@ byParent p =
     (cond (isType p) TypeName
     (cond (between tableIdentifier tableAlias p || between databaseDefinition tableDefinition p) Property Variable))
 
--- a token of the source, whose direct parent's kind is p, in the order of the tests of `classify_token`
-unfoldable pub classOf : List ℕ → ℕ → Rec → TokenClass
-classOf source p r =
-    cond (eqb (r .kind) comment) Comment
-    (cond (eqb (r .kind) number) Number
-    (cond (between stringToken hereDoc (r .kind)) StringLiteral
-    (cond (between plus arrow (r .kind)) Operator
-    (cond (eqb (r .kind) quotedIdentifier) (byParent p)
-    (cond (eqb (r .kind) bareWord) (bareword (text source (r .start) (r .end)) p) Unclassed)))))
+-- a token of this kind from start to end in the source, whose direct parent's kind is p, in the order of the tests of `classify_token`
+unfoldable pub classOf : List ℕ → ℕ → ℕ → ℕ → ℕ → TokenClass
+classOf source p kind start end =
+    cond (eqb kind comment) Comment
+    (cond (eqb kind number) Number
+    (cond (between stringToken hereDoc kind) StringLiteral
+    (cond (between plus arrow kind) Operator
+    (cond (eqb kind quotedIdentifier) (byParent p)
+    (cond (eqb kind bareWord) (bareword (text source start end) p) Unclassed)))))
 
 -- ---- the list
 
@@ -97,7 +96,7 @@ row e = e .start ∷ e .end ∷ e .class ∷ []
 -- every classed token among siblings and below them, in order, where p is the kind of the siblings' parent
 unfoldable pub classes : List ℕ → ℕ → Forest → List ClassedToken
 classes source p nil = []
-classes source p (token r rest) = entryOf (classOf source p r) (r .start) (r .end) ++ classes source p rest
+classes source p (token r rest) = entryOf (classOf source p (r .kind) (r .start) (r .end)) (r .start) (r .end) ++ classes source p rest
 classes source p (node r below rest) = classes source (r .kind) below ++ classes source p rest
 
 -- every classed token of a table's tree

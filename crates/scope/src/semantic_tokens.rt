@@ -7,8 +7,13 @@ use table::check::check;
 use table::check::Verdict;
 use table::kinds::BARE_WORD;
 use table::kinds::COMMENT;
+use table::kinds::HERE_DOC;
 use table::kinds::LAST_NODE;
+use table::kinds::LAST_TOKEN;
+use table::kinds::NUMBER;
+use table::kinds::PLUS;
 use table::kinds::QUOTED_IDENTIFIER;
+use table::kinds::STRING_TOKEN;
 use table::list::put_entry;
 use table::list::Listed;
 use table::list::NUMBER_BYTES;
@@ -29,7 +34,7 @@ ghost use Rattle.table.specs.Forest.{kids, stretchEnd};
 ghost use Rattle.table.specs.Rules.{mostRecords, rules};
 ghost use Rattle.table.specs.Lists.{Written, listed, lent};
 ghost use Rattle.scope.specs.KeywordTable.{Lent};
-ghost use Rattle.scope.specs.Classes.{byParent, judged, bareword, numberOf};
+ghost use Rattle.scope.specs.Classes.{byParent, judged, bareword, classOf, numberOf, row, entryOf, classes};
 
 // The classes by document 01's numbers, 0 to 9, and none.
 pub enum TokenClass {
@@ -128,4 +133,70 @@ fn classify_bareword(words: &[u8], starts: &Starts, text: &[u8], parent: usize) 
             }
         }
     }
+}
+
+fn classify_token(
+    words: &[u8],
+    starts: &Starts,
+    kind: usize,
+    start: usize,
+    end: usize,
+    source: &[u8],
+    parent: usize,
+) -> TokenClass
+    requires { ⌜ Lent (now words) (now starts) ⌝ }
+    ensures { λ r. ⌜ r ≡ classOf (now (source .entry)) parent kind start «end» ⌝ }
+{
+    match kind {
+        COMMENT => TokenClass::Comment,
+        NUMBER => TokenClass::Number,
+        STRING_TOKEN..=HERE_DOC => TokenClass::StringLiteral,
+        PLUS..=LAST_TOKEN => TokenClass::Operator,
+        QUOTED_IDENTIFIER => classify_identifier_by_parent(parent),
+        BARE_WORD => classify_bareword(words, starts, text_of(source, start, end), parent),
+        _ => TokenClass::Unclassed,
+    }
+}
+
+// Writes the entry of a token, if it has a class, to byte `at` and returns the byte of the next entry.
+fn put_class(out: &mut [u8], at: usize, c: TokenClass, start: usize, end: usize) -> usize
+    requires { ⌜ at < 1152921504606846976 ⌝ }
+    ensures { λ r. ⌜ Written row (entryOf c start «end») (now (out .entry)) at (now (out .exit)) r × (r ≤ at + 12) ⌝ }
+{
+    let class = number_of(c);
+    if class == UNCLASSED {
+        return at;
+    }
+    put_entry(out, at, &[start, end, class])
+}
+
+// Writes the classed tokens below the first record of s, which is the rest of the table from a node on, from byte `at` on.
+fn collect_tokens(words: &[u8], starts: &Starts, s: &[u8], source: &[u8], out: &mut [u8], at: usize) -> Walked
+    requires { ⌜ Lent (now words) (now starts) × (0 < count (now s)) × (at + 12 * count (now s) < 1152921504606846976) ⌝ }
+    ensures { λ r. ⌜ ((base : ℕ) → Written row (classes (now (source .entry)) (kindAt (now (s .entry)) 0) (kids (records base (now (s .entry))))) (now (out .entry)) at (now (out .exit)) (r .at))
+        × (r .used ≡ stretchEnd (now (s .entry)) 0) × (r .used ≤ count (now (s .entry))) × (1 ≤ r .used) × (r .at ≤ at + 12 * r .used) ⌝ }
+{
+    let m = count_of(s);
+    let parent = kind_at(s, 0);
+    let k = depth_at(s, 0) + 1;
+    let mut next = at;
+    let mut i = level_from(s, k, 1);
+    while i < m {
+        if depth_at(s, i) < k {
+            return Walked { at: next, used: i };
+        }
+        let kind = kind_at(s, i);
+        if kind <= LAST_NODE {
+            let w = collect_tokens(words, starts, rest_from(s, i), source, out, next);
+            next = w.at;
+            i = i + w.used;
+        } else {
+            let start = start_at(s, i);
+            let end = end_at(s, i);
+            let c = classify_token(words, starts, kind, start, end, source, parent);
+            next = put_class(out, next, c, start, end);
+            i = level_from(s, k, i + 1);
+        }
+    }
+    Walked { at: next, used: i }
 }

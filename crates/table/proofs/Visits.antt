@@ -114,6 +114,10 @@ module _ (t : List ℕ) where
     unfolding recordAt
     rest-depth = let e : recordAt (drop (recordBytes * i) t) i 0 ≡ recordAt t 0 i = cc (rest-heads) in ap (λ (r : Rec). r .depth) e
 
+    pub rest-kind : kindAt (drop (recordBytes * i) t) 0 ≡ kindAt t i
+    unfolding recordAt
+    rest-kind = let e : recordAt (drop (recordBytes * i) t) i 0 ≡ recordAt t 0 i = cc (rest-heads) in ap (λ (r : Rec). r .kind) e
+
     rest-others : from (drop (recordBytes * i) t) i (0 + 1) ≡ from t 0 (i + 1)
     rest-others = cc (rest-heads)
 
