@@ -1,10 +1,10 @@
 // Token classes: what colour each token has, by its kind, its direct parent's kind and, for a bareword, the keywords.
-use crate::keywords::keyword_in;
-use crate::keywords::Starts;
 use crate::keywords::KEYWORDS;
 use crate::keywords::STARTS;
-use table::check::check;
+use crate::keywords::Starts;
+use crate::keywords::keyword_in;
 use table::check::Verdict;
+use table::check::check;
 use table::kinds::BARE_WORD;
 use table::kinds::COMMENT;
 use table::kinds::HERE_DOC;
@@ -14,9 +14,9 @@ use table::kinds::NUMBER;
 use table::kinds::PLUS;
 use table::kinds::QUOTED_IDENTIFIER;
 use table::kinds::STRING_TOKEN;
-use table::list::put_entry;
 use table::list::Listed;
 use table::list::NUMBER_BYTES;
+use table::list::put_entry;
 use table::record::count_of;
 use table::record::depth_at;
 use table::record::end_at;
@@ -26,15 +26,16 @@ use table::stretch::level_from;
 use table::stretch::rest_from;
 use table::text::text_of;
 ghost use mathlib.Core.Path.{_≡_};
-ghost use mathlib.Core.Bool.{Bool, false};
+ghost use mathlib.Core.Bool.{false};
+ghost use mathlib.Core.List.{[]};
 ghost use Prim.Native.Nat.{ℕ, _+_, _*_, _≤_, _<_};
 ghost use lib.ListN.{length};
 ghost use Rattle.table.specs.Table.{count, records, kindAt, startAt, endAt};
 ghost use Rattle.table.specs.Forest.{kids, stretchEnd};
 ghost use Rattle.table.specs.Rules.{mostRecords, rules};
-ghost use Rattle.table.specs.Lists.{Written, listed, lent};
+ghost use Rattle.table.specs.Lists.{listBytes, Written, listed, lent};
 ghost use Rattle.scope.specs.KeywordTable.{Lent};
-ghost use Rattle.scope.specs.Classes.{byParent, judged, bareword, classOf, numberOf, row, entryOf, classes};
+ghost use Rattle.scope.specs.Classes.{byParent, judged, bareword, classOf, numberOf, row, entryOf, classes, classesOf};
 
 // The classes by document 01's numbers, 0 to 9, and none.
 pub enum TokenClass {
@@ -171,7 +172,14 @@ fn put_class(out: &mut [u8], at: usize, c: TokenClass, start: usize, end: usize)
 }
 
 // Writes the classed tokens below the first record of s, which is the rest of the table from a node on, from byte `at` on.
-fn collect_tokens(words: &[u8], starts: &Starts, s: &[u8], source: &[u8], out: &mut [u8], at: usize) -> Walked
+fn collect_tokens(
+    words: &[u8],
+    starts: &Starts,
+    s: &[u8],
+    source: &[u8],
+    out: &mut [u8],
+    at: usize,
+) -> Walked
     requires { ⌜ Lent (now words) (now starts) × (0 < count (now s)) × (at + 12 * count (now s) < 1152921504606846976) ⌝ }
     ensures { λ r. ⌜ ((base : ℕ) → Written row (classes (now (source .entry)) (kindAt (now (s .entry)) 0) (kids (records base (now (s .entry))))) (now (out .entry)) at (now (out .exit)) (r .at))
         × (r .used ≡ stretchEnd (now (s .entry)) 0) × (r .used ≤ count (now (s .entry))) × (1 ≤ r .used) × (r .at ≤ at + 12 * r .used) ⌝ }
@@ -199,4 +207,48 @@ fn collect_tokens(words: &[u8], starts: &Starts, s: &[u8], source: &[u8], out: &
         }
     }
     Walked { at: next, used: i }
+}
+
+// How many bytes the list takes.
+fn class_bytes(words: &[u8], starts: &Starts, table: &[u8], source: &[u8]) -> usize
+    requires { ⌜ Lent (now words) (now starts) × (0 < count (now table)) × (count (now table) ≤ mostRecords) ⌝ }
+    ensures { λ r. ⌜ (r ≡ length (listBytes row (classesOf (now (source .entry)) (now (table .entry))))) × (r ≤ 12 * count (now (table .entry))) ⌝ }
+{
+    let mut none = [0u8; 0];
+    let w = collect_tokens(words, starts, table, source, &mut none, 0);
+    w.at
+}
+
+// Lists the classes of a table that is admitted. It counts first only where there may be too little room.
+fn list_classes(
+    words: &[u8],
+    starts: &Starts,
+    table: &[u8],
+    source: &[u8],
+    out: &mut [u8],
+) -> Listed
+    requires { ⌜ Lent (now words) (now starts) × (0 < count (now table)) × (count (now table) ≤ mostRecords) ⌝ }
+    ensures { λ r. ⌜ (r ≡ listed [] row (classesOf (now (source .entry)) (now (table .entry))) (now (out .entry)))
+        × (now (out .exit) ≡ lent [] row (classesOf (now (source .entry)) (now (table .entry))) (now (out .entry))) ⌝ }
+{
+    let room = out.len();
+    if room < ENTRY_BYTES * count_of(table) {
+        let needed = class_bytes(words, starts, table, source);
+        if room < needed {
+            return Listed::Refused(7, (needed / ENTRY_BYTES) as u32);
+        }
+    }
+    let w = collect_tokens(words, starts, table, source, out, 0);
+    Listed::Entries((w.at / ENTRY_BYTES) as u32)
+}
+
+// The question: start, end and class of every classed token, in order.
+pub fn token_classes(table: &[u8], source: &[u8], out: &mut [u8]) -> Listed
+    ensures { λ r. ⌜ (r ≡ listed (rules (now (table .entry)) (length (now (source .entry))) 0) row (classesOf (now (source .entry)) (now (table .entry))) (now (out .entry)))
+        × (now (out .exit) ≡ lent (rules (now (table .entry)) (length (now (source .entry))) 0) row (classesOf (now (source .entry)) (now (table .entry))) (now (out .entry))) ⌝ }
+{
+    match check(table, source) {
+        Verdict::Refused(k, d) => Listed::Refused(k, d),
+        Verdict::Admitted => list_classes(&KEYWORDS, &STARTS, table, source, out),
+    }
 }

@@ -4,7 +4,7 @@
 --     writing                       a walk's `rest`: what the buffer and the next place will be
 --     writing-turn, writing-last    some of it is written; the last of it is
 --     writing-step, writing-end     the same where what is left to write keeps its form
---     list-refused                  a question that its own rules refuse
+--     list-refused, list-admitted   a question that its own rules refuse; one that they admit
 --     list-filled, list-short       all entries are written; they are counted, and have no room
 --     list-written, list-denied     the same where they are counted on an empty part of the buffer itself
 -- Assumes nothing.
@@ -20,6 +20,7 @@ use lib.Seq.{sets, sets-eq, length-sets, take-suc, take-all, length-take-le}
 use lib.Dec.{ltb}
 use borrow.Author.Tests.{lt-ltb, le-ltb}
 use Rattle.table.specs.declared.check.Verdict.the-variants.{Admitted, Refused}
+use Rattle.table.specs.declared.list.Listed.{Listed}
 use Rattle.table.specs.declared.list.Listed.the-variants.{Entries, Refused as Denied}
 use Rattle.table.specs.Forest.{Forest, nil}
 use Rattle.table.specs.Rules.{Rule, first}
@@ -138,6 +139,12 @@ module _ {E : Type 0} (row : E → List ℕ) where
       → Refused 7 (length es) ≡ listVerdict rs row es out
   listed-short rs es out e h = sym (then-admitted rs (roomRule row es out ∷ []) e ∙ rw (lt-ltb (length out) (length (listBytes row es)) h))
 
+  -- where its rules admit a question, its list is that of the question with no rules
+  pub list-admitted : (rs : List Rule) (es : List E) (out : List ℕ) {r : Listed} {out′ : List ℕ} → Admitted ≡ first rs
+      → (r ≡ listed [] row es out) × (out′ ≡ lent [] row es out) → (r ≡ listed rs row es out) × (out′ ≡ lent rs row es out)
+  unfolding listed lent
+  list-admitted rs es out e q = rw (then-admitted rs (roomRule row es out ∷ []) e) q
+
   -- entries of w bytes each
   module _ (w : ℕ) (wide : (e : E) → numberBytes * length (row e) ≡ w) where
     length-wide : (es : List E) → length (listBytes row es) ≡ length es * w
@@ -156,11 +163,11 @@ module _ {E : Type 0} (row : E → List ℕ) where
           (rw (← v, entries-of es m p (omega (arith, c .next))), rw (← v) (written-whole c (omega (arith, c .next))))
 
       -- they were counted, and have no room
-      pub list-short : {e e′ : List ℕ} {m : ℕ} → Written row es e 0 e′ m → length out < m → (Denied 7 (m / w) ≡ listed rs row es out) × (out ≡ lent rs row es out)
+      pub list-short : {m : ℕ} → m ≡ length (listBytes row es) → length out < m → (Denied 7 (m / w) ≡ listed rs row es out) × (out ≡ lent rs row es out)
       unfolding listed lent reply buffer
-      list-short {e} {e′} {m} c h =
-          let v = listed-short rs es out ok (omega (arith, c .next)) in
-          (rw (← v, entries-of es m p (omega (arith, c .next))), rw (← v))
+      list-short {m} c h =
+          let v = listed-short rs es out ok (omega arith) in
+          (rw (← v, entries-of es m p c), rw (← v))
 
     -- a function that counts by a call on an empty part of out, `&mut out[..0]`, and calls again to write if all have room
     module _ (p : 0 < w) (rs : List Rule) (es : List E) (out : List ℕ) (ok : Admitted ≡ first rs) {e l : List ℕ} {m : ℕ}

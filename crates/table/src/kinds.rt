@@ -85,8 +85,11 @@ pub const BARE_WORD: usize = 131;
 pub const QUOTED_IDENTIFIER: usize = 132;
 
 pub const NUMBER: usize = 133;
+
 pub const STRING_TOKEN: usize = 134;
+
 pub const HERE_DOC: usize = 135;
+
 pub const COMMA: usize = 136;
 
 pub const OPENING_ROUND: usize = 137;
@@ -102,6 +105,7 @@ pub const CLOSING_SQUARE: usize = 141;
 pub const CLOSING_CURLY: usize = 142;
 
 pub const PLUS: usize = 143;
+
 pub const LAST_TOKEN: usize = 157;
 
 pub fn is_node(kind: usize) -> bool
