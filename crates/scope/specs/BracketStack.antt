@@ -1,7 +1,7 @@
 -- How the code holds the bracket stack: an array of numbers, each an opener's record number and its shape. A reader of the answers needs
 -- none of this.
 -- Definitions only.
-use Prim.Native.Nat.{ℕ, zero, suc, _+_, _-_, _*_, _%_}
+use Prim.Native.Nat.{ℕ, zero, suc, _+_, _-_, _*_, _/_, _%_}
 use mathlib.Core.Bool.{Bool, cond}
 use mathlib.Core.List.{List, [], _∷_}
 use lib.Dec.{eqb}
@@ -9,7 +9,10 @@ use lib.ListN.{getD}
 use Rattle.table.specs.declared.record.Rec.{Rec}
 use Rattle.table.specs.Kinds.{openingRound, closingRound}
 use Rattle.table.specs.Forest.{Forest, nil, token, node}
-use Rattle.scope.specs.Brackets.{isOpener, isCloser}
+use Rattle.scope.specs.Brackets.{isOpener, isCloser, holding}
+use Rattle.table.specs.Text.{bytesOf}
+use Rattle.scope.specs.declared.bracket_matching.Hint.{Hint}
+use Rattle.scope.specs.declared.bracket_matching.Hint.the-variants.{Opener, NoOpener}
 
 -- an opener of kind k and number i
 abbrev pub packed : ℕ → ℕ → ℕ
@@ -32,3 +35,19 @@ unfoldable pub leftBy : List ℕ → Forest → List ℕ
 leftBy stack nil = stack
 leftBy stack (token r rest) = leftBy (steppedBy stack (r .kind) (r .index)) rest
 leftBy stack (node r below rest) = leftBy (leftBy stack below) rest
+
+-- the record number of an opener
+abbrev pub unpacked : ℕ → ℕ
+unpacked o = o / 4
+
+-- the last opener of this shape, 0 to 2
+unfoldable pub lastBy : ℕ → List ℕ → Hint
+lastBy shape [] = NoOpener
+lastBy shape (o ∷ stack) = let on : Hint = lastBy shape stack in cond (eqb (o % 4) shape) (Opener (unpacked o)) on
+
+-- the opener that a message speaks of
+unfoldable pub hintBy : List ℕ → List ℕ → Hint
+hintBy m stack =
+    cond (holding (bytesOf "expected )") m) (lastBy 0 stack)
+    (cond (holding (bytesOf "expected ]") m) (lastBy 1 stack)
+    (cond (holding (bytesOf "expected }") m) (lastBy 2 stack) NoOpener))

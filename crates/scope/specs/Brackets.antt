@@ -10,6 +10,10 @@ use Rattle.table.specs.Kinds.{openingRound, openingSquare, openingCurly, closin
 use Rattle.table.specs.Table.{records}
 use Rattle.table.specs.Forest.{Forest, nil, token, node, kids}
 use Rattle.table.specs.Text.{bytesOf, same}
+use Rattle.table.specs.declared.check.Verdict.{Verdict}
+use Rattle.table.specs.declared.check.Verdict.the-variants.{Admitted, Refused}
+use Rattle.scope.specs.declared.bracket_matching.HintReply.{HintReply}
+use Rattle.scope.specs.declared.bracket_matching.HintReply.the-variants.{Hinted, Refused as Denied}
 use Rattle.scope.specs.declared.bracket_matching.Hint.{Hint}
 use Rattle.scope.specs.declared.bracket_matching.Hint.the-variants.{Opener, NoOpener}
 
@@ -78,3 +82,8 @@ hintOf m stack =
     cond (holding (bytesOf "expected )") m) (lastOf openingRound stack)
     (cond (holding (bytesOf "expected ]") m) (lastOf openingSquare stack)
     (cond (holding (bytesOf "expected }") m) (lastOf openingCurly stack) NoOpener))
+
+-- the reply: a refusal, or the hint
+unfoldable pub hinted : Verdict → Hint → HintReply
+hinted Admitted h = Hinted h
+hinted (Refused k d) h = Denied k d
