@@ -3,14 +3,14 @@
 use Prim.Native.Nat.{ℕ, zero, suc, _+_, _-_, _*_, _/_, _%_, _≤_, _<_}
 use mathlib.Core.Path.{_≡_, refl, sym, ap, _∙_}
 use mathlib.Core.Bool.{Bool, true, false, cond, _&&_, _||_}
-use mathlib.Core.List.{List, [], _∷_, _++_, map, map-append, reverse, reverseAux, reverseAux-eq}
-use mathlib.Core.Logic.{⊎-elim}
+use mathlib.Core.List.{List, [], _∷_, _++_, map, map-append, append-nil, reverse, reverseAux, reverseAux-eq}
+use mathlib.Core.Logic.{⊎-elim, _↔_}
 use native.Mathlib.Omega.{arith}
 use native.Mathlib.Numerals.{add-one}
-use borrow.Author.Tests.{le-leb, lt-leb, eq-eqb, ne-eqb, leb-true}
+use borrow.Author.Tests.{le-leb, lt-leb, eq-eqb, ne-eqb, eqb-true}
 use lib.Dec.{eqb, leb}
-use lib.ListN.{length, getD, set, take, drop, length-take, length-drop, length-map}
-use lib.Seq.{getD-set-same, getD-set-other, take-suc, take-all, length-take-le}
+use lib.ListN.{length, getD, set, take, drop, length-take, length-drop, length-map, take-append-drop}
+use lib.Seq.{getD-set-same, getD-set-other, take-suc, take-all, take-length, take-append-le, length-take-le}
 use Rattle.table.specs.declared.record.Rec.{Rec}
 use Rattle.table.specs.Table.{recordBytes, count, kindAt, recordAt, records}
 use Rattle.table.specs.Forest.{Forest, nil, token, node, kids}
@@ -21,9 +21,9 @@ use Rattle.table.specs.declared.list.Listed.the-variants.{Entries, Refused as D
 use Rattle.table.specs.Lists.{numberBytes, rowBytes, listBytes, put, Written, listed, lent}
 use Rattle.table.specs.Text.{same}
 use Rattle.table.proofs.Laws.{lt-or-le, eq-or-not}
-use Rattle.table.proofs.Texts.{differ}
+use Rattle.table.proofs.Texts.{both, differ}
 use Rattle.table.proofs.Writes.{written-none, written-one, written-then, list-filled, list-short}
-use Rattle.scope.specs.Brackets.{isOpener, isCloser, fits, closed, stepped, left, stackLeft, indexOf, openersLeft, row, holding, lastOf, hintOf, hinted}
+use Rattle.scope.specs.Brackets.{isOpener, isCloser, fits, closed, stepped, left, stackLeft, indexOf, openersLeft, row, holding, lastOf, hintOf, hinted, Holds}
 use Rattle.scope.specs.BracketStack.{packed, unpacked, stackOf, closedBy, steppedBy, leftBy, lastBy, hintBy}
 use Rattle.scope.specs.declared.bracket_matching.Hint.{Hint}
 use Rattle.scope.specs.declared.bracket_matching.Hint.the-variants.{Opener, NoOpener}
@@ -324,3 +324,42 @@ hinted-refused h e = rw (← e)
 pub hinted-admitted : {v : Verdict} {h g : Hint} → Admitted ≡ v → g ≡ h → Hinted g ≡ hinted v h
 unfolding hinted
 hinted-admitted e q = rw (← e, q)
+
+-- ---- holding, in plain words: the word stands in the message between two parts of it
+
+same-eq : (a b : List ℕ) → same a b ≡ true → a ≡ b
+same-eq [] [] e = refl
+same-eq [] (y ∷ ys) e = absurd (let z : _≡_ {A = ℕ} 0 1 = cc in omega arith)
+same-eq (x ∷ xs) [] e = absurd (let z : _≡_ {A = ℕ} 0 1 = cc in omega arith)
+same-eq (x ∷ xs) (y ∷ ys) e = let b = both (eqb x y) _ e in rw (eqb-true x y (b .0), same-eq xs ys (b .1))
+
+same-refl : (a : List ℕ) → same a a ≡ true
+same-refl [] = refl
+same-refl (x ∷ xs) = rw (eq-eqb x x refl, same-refl xs)
+
+holds→ : (w m : List ℕ) → holding w m ≡ true → Holds w m
+unfolding holding
+holds→ w [] e = record { before = []; after = []; is = same-eq [] w e ∙ sym (append-nil w) }
+holds→ w (b ∷ m) e = go (same (take (length w) (b ∷ m)) w) refl e (holds→ w m)
+  where
+    go : (t : Bool) → same (take (length w) (b ∷ m)) w ≡ t → (t || holding w m) ≡ true → (holding w m ≡ true → Holds w m) → Holds w (b ∷ m)
+    go true q e on =
+        record { before = []; after = drop (length w) (b ∷ m); is = sym (take-append-drop (length w) (b ∷ m)) ∙ ap (λ (l : List ℕ). l ++ drop (length w) (b ∷ m)) (same-eq (take (length w) (b ∷ m)) w q) }
+    go false q e on = let h = on e in record { before = b ∷ h .before; after = h .after; is = ap (λ (l : List ℕ). b ∷ l) (h .is) }
+
+holds-front : (w after : List ℕ) → holding w (w ++ after) ≡ true
+unfolding holding
+holds-front [] [] = refl
+holds-front [] (a ∷ after) = refl
+holds-front (x ∷ w) after = rw (take-append-le (length w) w after (omega arith), take-length w, same-refl (x ∷ w))
+
+holds← : (w before after : List ℕ) → holding w (before ++ w ++ after) ≡ true
+holds← w [] after = holds-front w after
+holds← w (b ∷ before) after = rw (holding-cons w b (before ++ w ++ after), holds← w before after) (right (same (take (length w) (b ∷ before ++ w ++ after)) w))
+  where
+    right : (t : Bool) → (t || true) ≡ true
+    right true = refl
+    right false = refl
+
+pub holding-plain : (w m : List ℕ) → (holding w m ≡ true) ↔ Holds w m
+holding-plain w m = (holds→ w m, λ h. rw (h .is) (holds← w (h .before) (h .after)))

@@ -2,7 +2,8 @@
 -- Definitions only.
 use Prim.Native.Nat.{ℕ}
 use mathlib.Core.Bool.{Bool, true, false, cond, _&&_, _||_}
-use mathlib.Core.List.{List, [], _∷_, map, reverse}
+use mathlib.Core.Path.{_≡_}
+use mathlib.Core.List.{List, [], _∷_, _++_, map, reverse}
 use lib.Dec.{leb, eqb}
 use lib.ListN.{length, take}
 use Rattle.table.specs.declared.record.Rec.{Rec}
@@ -70,6 +71,12 @@ row i = i ∷ []
 unfoldable pub holding : List ℕ → List ℕ → Bool
 holding w [] = same [] w
 holding w (b ∷ m) = let on : Bool = holding w m in same (take (length w) (b ∷ m)) w || on
+
+-- the same in plain words: the word stands in the message between two parts of it (`holding-plain` in proofs/BracketLaws.antt)
+pub record Holds (w m : List ℕ) : Type 0 where
+  pub before : List ℕ
+  pub after : List ℕ
+  pub is : m ≡ before ++ w ++ after
 
 -- the last opener of this kind that is left: the nearest to the top
 unfoldable pub lastOf : ℕ → List Rec → Hint
