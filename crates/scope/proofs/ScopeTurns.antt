@@ -1,0 +1,111 @@
+-- What a turn of each walk writes, by the kind of the record that it stands at.
+-- Assumes nothing.
+use Prim.Native.Nat.{ℕ, _+_, _≤_, _<_}
+use mathlib.Core.Path.{_≡_, refl, sym, ap, _∙_}
+use mathlib.Core.Bool.{Bool, true, false, cond, _||_, not, _&&_}
+use mathlib.Core.List.{List, [], _∷_, _++_, map}
+use native.Mathlib.Omega.{arith}
+use borrow.Author.Tests.{eqb-true, eq-eqb, ne-eqb}
+use lib.Dec.{eqb}
+use Rattle.table.specs.declared.record.Rec.{Rec}
+use Rattle.table.specs.Kinds.{lastNode, withExpressionItem, columnList, expressionList, columnAlias}
+use Rattle.table.specs.Table.{count, kindAt, recordAt, records, part}
+use Rattle.table.specs.Forest.{Forest, nil, token, node, kids, stretchEnd}
+use Rattle.table.proofs.Laws.{head-part}
+use Rattle.scope.specs.declared.scope.NameBinding.{NameBinding}
+use Rattle.scope.specs.declared.scope.Bound.{Bound}
+use Rattle.scope.specs.declared.scope.Binder.{Binder}
+use Rattle.scope.specs.declared.scope.Binder.the-variants.{Item, Alias}
+use Rattle.scope.specs.declared.scope.Bound.the-variants.{Unnamed, Named}
+use Rattle.scope.specs.declared.scope.TableRef.{TableRef}
+use Rattle.scope.specs.declared.scope.Pending.{Pending}
+use Rattle.scope.specs.declared.scope.Pending.the-variants.{Nothing, Held}
+use Rattle.scope.specs.declared.scope.Reads.{Reads}
+use Rattle.scope.specs.declared.scope.Reads.the-variants.{Aliases, References}
+use Rattle.scope.specs.Scope.{entry, gathered, handOn, listAlias}
+use Rattle.scope.specs.ScopeQuestions.{referenceRow, bindingRow}
+use Rattle.scope.specs.ScopeRows.{rowsOf, binderKind, isList, binds, names}
+
+-- the kind of a record
+pub kind-of : (s : List ℕ) (base i : ℕ) → recordAt s base i .kind ≡ kindAt s i
+unfolding recordAt
+kind-of s base i = refl
+
+-- ---- bound names
+
+pub binder-node : (binder : Binder) {k : ℕ} {x : Bool} → x ≡ eqb k (binderKind binder) → x ≡ true → k ≤ lastNode
+unfolding binderKind
+binder-node Item {k} e y = omega (arith, eqb-true k withExpressionItem (sym e ∙ y))
+binder-node Alias {k} e y = omega (arith, eqb-true k columnAlias (sym e ∙ y))
+
+pub list-node : (binder : Binder) {k : ℕ} {x : Bool} → x ≡ isList binder k → x ≡ true → k ≤ lastNode
+unfolding isList
+list-node Item {k} e y = omega (arith, eqb-true k columnList (sym e ∙ y))
+list-node Alias {k} e y = go (eqb k columnList) (eqb k expressionList) refl refl (sym e ∙ y)
+  where
+    go : (a b : Bool) → eqb k columnList ≡ a → eqb k expressionList ≡ b → (a || b) ≡ true → k ≤ lastNode
+    go true b p q h = omega (arith, eqb-true k columnList p)
+    go false true p q h = omega (arith, eqb-true k expressionList q)
+    go false false p q h = absurd (let z : _≡_ {A = ℕ} 0 1 = cc in omega arith)
+
+module _ (binder : Binder) (src s : List ℕ) (base i : ℕ) (f : Forest) where
+  pub names-token : names binder src (token (recordAt s base i) f) ≡ names binder src f
+  unfolding gathered
+  names-token = refl
+
+  module _ {k : ℕ} (e : k ≡ kindAt s i) where
+    kind-eqb : {x : Bool} → x ≡ eqb k (binderKind binder) → eqb (recordAt s base i .kind) (binderKind binder) ≡ x
+    kind-eqb q = rw (kind-of s base i, ← e) (sym q)
+
+    kind-list : {x : Bool} → x ≡ isList binder k → isList binder (recordAt s base i .kind) ≡ x
+    kind-list q = rw (kind-of s base i, ← e) (sym q)
+
+    pub names-bind : {x : Bool} {b : Bound} {p : List ℕ} → i < count s → p ≡ part s i (stretchEnd s i) → x ≡ eqb k (binderKind binder) → x ≡ true
+        → b ≡ binds binder src (recordAt p (base + i) 0) (kids (records (base + i) p))
+        → names binder src (node (recordAt s base i) (kids (records (base + i) p)) f) ≡ entry b ++ names binder src f
+    unfolding gathered
+    names-bind h q x y b = rw (kind-eqb x ∙ y, b, head-part s base i h q)
+
+    pub names-list : {x y : Bool} (below : Forest) → x ≡ eqb k (binderKind binder) → x ≡ false → y ≡ isList binder k → y ≡ true
+        → names binder src (node (recordAt s base i) below f) ≡ names binder src below ++ names binder src f
+    unfolding gathered
+    names-list below x n y t = rw (kind-eqb x ∙ n, kind-list y ∙ t)
+
+    pub names-over : {x y : Bool} (below : Forest) → x ≡ eqb k (binderKind binder) → x ≡ false → y ≡ isList binder k → y ≡ false
+        → names binder src (node (recordAt s base i) below f) ≡ names binder src f
+    unfolding gathered
+    names-over below x n y t = rw (kind-eqb x ∙ n, kind-list y ∙ t)
+
+pub names-none : (binder : Binder) (src : List ℕ) → names binder src nil ≡ []
+unfolding gathered
+names-none binder src = refl
+
+-- ---- the table reading: what is written of the pending reference and of an alias
+
+pub hand-none : (p : Pending) → handOn (rowsOf Aliases) p ≡ []
+unfolding handOn rowsOf
+hand-none Nothing = refl
+hand-none (Held t) = refl
+
+pub hand-held : (t : TableRef) → handOn (rowsOf References) (Held t) ≡ map referenceRow (t ∷ [])
+unfolding handOn rowsOf
+hand-held t = refl
+
+pub hand-nothing : (reads : Reads) → handOn (rowsOf reads) Nothing ≡ []
+unfolding handOn
+hand-nothing reads = refl
+
+pub alias-none : (p : Pending) (b : Bound) → listAlias (rowsOf References) p b ≡ []
+unfolding listAlias rowsOf
+alias-none Nothing b = refl
+alias-none (Held t) Unnamed = refl
+alias-none (Held t) (Named b) = refl
+
+pub alias-nothing : (reads : Reads) (b : Bound) → listAlias (rowsOf reads) Nothing b ≡ []
+unfolding listAlias
+alias-nothing reads b = refl
+
+pub alias-held : (t : TableRef) (b : Bound) → listAlias (rowsOf Aliases) (Held t) b ≡ map bindingRow (entry b)
+unfolding listAlias rowsOf entry
+alias-held t Unnamed = refl
+alias-held t (Named b) = refl

@@ -1,0 +1,2 @@
+// The answers that need no cursor.
+pub mod scope;
