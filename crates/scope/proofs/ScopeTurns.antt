@@ -3,12 +3,12 @@
 use Prim.Native.Nat.{ℕ, _+_, _≤_, _<_}
 use mathlib.Core.Path.{_≡_, refl, sym, ap, _∙_}
 use mathlib.Core.Bool.{Bool, true, false, cond, _||_, not, _&&_}
-use mathlib.Core.List.{List, [], _∷_, _++_, map}
+use mathlib.Core.List.{List, [], _∷_, _++_, map, append-assoc}
 use native.Mathlib.Omega.{arith}
 use borrow.Author.Tests.{eqb-true, eq-eqb, ne-eqb}
 use lib.Dec.{eqb}
 use Rattle.table.specs.declared.record.Rec.{Rec}
-use Rattle.table.specs.Kinds.{lastNode, withExpressionItem, columnList, expressionList, columnAlias}
+use Rattle.table.specs.Kinds.{lastNode, joinClause, withExpressionItem, columnList, expressionList, tableIdentifier, tableExpression, tableAlias, columnAlias}
 use Rattle.table.specs.Table.{count, kindAt, recordAt, records, part}
 use Rattle.table.specs.Forest.{Forest, nil, token, node, kids, stretchEnd}
 use Rattle.table.proofs.Laws.{head-part}
@@ -22,7 +22,8 @@ use Rattle.scope.specs.declared.scope.Pending.{Pending}
 use Rattle.scope.specs.declared.scope.Pending.the-variants.{Nothing, Held}
 use Rattle.scope.specs.declared.scope.Reads.{Reads}
 use Rattle.scope.specs.declared.scope.Reads.the-variants.{Aliases, References}
-use Rattle.scope.specs.Scope.{entry, gathered, handOn, listAlias}
+use Rattle.scope.specs.Names.{isPart, direct, aliasIn}
+use Rattle.scope.specs.Scope.{entry, gathered, fresh, aliased, Listing, handOn, listAlias, reading}
 use Rattle.scope.specs.ScopeQuestions.{referenceRow, bindingRow}
 use Rattle.scope.specs.ScopeRows.{rowsOf, binderKind, isList, binds, names}
 
@@ -109,3 +110,76 @@ pub alias-held : (t : TableRef) (b : Bound) → listAlias (rowsOf Aliases) (Held
 unfolding listAlias rowsOf entry
 alias-held t Unnamed = refl
 alias-held t (Named b) = refl
+
+-- ---- the table reading: what it has yet to read with p pending, at a record of each kind
+
+module _ {E : Type 0} (L : Listing E) (src : List ℕ) (p : Pending) (r : Rec) (below f : Forest) where
+  at-name : eqb (r .kind) tableIdentifier ≡ true → reading L src p (node r below f) ≡ handOn L p ++ reading L src (fresh (r .index) (direct isPart below)) f
+  unfolding reading
+  at-name e = rw e
+
+  module _ (a : eqb (r .kind) tableIdentifier ≡ false) where
+    at-alias : eqb (r .kind) tableAlias ≡ true
+        → reading L src p (node r below f) ≡ listAlias L p (aliasIn src r below) ++ reading L src (aliased p (aliasIn src r below)) f
+    unfolding reading
+    at-alias e = rw (a, e)
+
+    module _ (b : eqb (r .kind) tableAlias ≡ false) where
+      at-table : eqb (r .kind) tableExpression ≡ true → reading L src p (node r below f) ≡ reading L src Nothing below ++ reading L src p f
+      unfolding reading
+      at-table e = rw (a, b, e)
+
+      module _ (c : eqb (r .kind) tableExpression ≡ false) where
+        at-join : eqb (r .kind) joinClause ≡ true → reading L src p (node r below f) ≡ handOn L p ++ (reading L src Nothing below ++ reading L src Nothing f)
+        unfolding reading
+        at-join e = rw (a, b, c, e)
+
+        at-other : eqb (r .kind) joinClause ≡ false → reading L src p (node r below f) ≡ reading L src p f
+        unfolding reading
+        at-other e = rw (a, b, c, e)
+
+module _ (s : List ℕ) (base i : ℕ) where
+  kind-yes : {k : ℕ} → kindAt s i ≡ k → eqb (recordAt s base i .kind) k ≡ true
+  kind-yes {k} e = rw (kind-of s base i) (eq-eqb (kindAt s i) k e)
+
+  kind-no : (k : ℕ) → (kindAt s i ≡ k → ⊥) → eqb (recordAt s base i .kind) k ≡ false
+  kind-no k e = rw (kind-of s base i) (ne-eqb (kindAt s i) k e)
+
+  index-of : recordAt s base i .index ≡ base + i
+  unfolding recordAt
+  index-of = refl
+
+module _ {E : Type 0} (L : Listing E) (src : List ℕ) (p : Pending) (s : List ℕ) (base i : ℕ) (f : Forest) where
+  pub read-token : reading L src p (token (recordAt s base i) f) ≡ reading L src p f
+  unfolding reading
+  read-token = refl
+
+  pub read-name : {q : Pending} (below : Forest) → kindAt s i ≡ tableIdentifier → q ≡ fresh (base + i) (direct isPart below)
+      → reading L src p (node (recordAt s base i) below f) ≡ handOn L p ++ reading L src q f
+  read-name below e q = at-name L src p _ below f (kind-yes s base i e) ∙ rw (index-of s base i, q)
+
+  pub read-alias : {q : Pending} {b : Bound} {t : List ℕ} → i < count s → t ≡ part s i (stretchEnd s i) → kindAt s i ≡ tableAlias
+      → b ≡ aliasIn src (recordAt t (base + i) 0) (kids (records (base + i) t)) → q ≡ aliased p b
+      → reading L src p (node (recordAt s base i) (kids (records (base + i) t)) f) ≡ listAlias L p b ++ reading L src q f
+  read-alias h t e b q =
+      at-alias L src p _ _ f (kind-no s base i tableIdentifier (λ x. omega arith)) (kind-yes s base i e)
+      ∙ rw (q, b, head-part s base i h t)
+
+  module _ (below : Forest) where
+    pub read-table : kindAt s i ≡ tableExpression → reading L src p (node (recordAt s base i) below f) ≡ reading L src Nothing below ++ reading L src p f
+    read-table e = at-table L src p _ below f (kind-no s base i tableIdentifier (λ x. omega arith)) (kind-no s base i tableAlias (λ x. omega arith)) (kind-yes s base i e)
+
+    pub read-join : kindAt s i ≡ joinClause
+        → reading L src p (node (recordAt s base i) below f) ≡ (handOn L p ++ reading L src Nothing below) ++ reading L src Nothing f
+    read-join e =
+        at-join L src p _ below f (kind-no s base i tableIdentifier (λ x. omega arith)) (kind-no s base i tableAlias (λ x. omega arith)) (kind-no s base i tableExpression (λ x. omega arith)) (kind-yes s base i e)
+        ∙ sym (append-assoc (handOn L p) (reading L src Nothing below) (reading L src Nothing f))
+
+    pub read-other : (kindAt s i ≡ tableIdentifier → ⊥) → (kindAt s i ≡ tableAlias → ⊥) → (kindAt s i ≡ tableExpression → ⊥) → (kindAt s i ≡ joinClause → ⊥)
+        → reading L src p (node (recordAt s base i) below f) ≡ reading L src p f
+    read-other a b c d =
+        at-other L src p _ below f (kind-no s base i tableIdentifier a) (kind-no s base i tableAlias b) (kind-no s base i tableExpression c) (kind-no s base i joinClause d)
+
+pub read-end : {E : Type 0} (L : Listing E) (src : List ℕ) (p : Pending) → reading L src p nil ≡ handOn L p
+unfolding reading
+read-end L src p = refl
