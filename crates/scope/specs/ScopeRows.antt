@@ -1,12 +1,13 @@
 -- How one walk serves the four lists: its entries are rows of numbers, and which list is asked for says what is a node's own part.
 -- Definitions only. A reader of the questions needs none of them.
-use Prim.Native.Nat.{ℕ}
+use Prim.Native.Nat.{ℕ, _*_}
 use mathlib.Core.Bool.{Bool, _||_}
-use mathlib.Core.List.{List, [], _∷_}
+use mathlib.Core.List.{List, [], _∷_, map}
 use lib.Dec.{eqb}
 use Rattle.table.specs.declared.record.Rec.{Rec}
 use Rattle.table.specs.Kinds.{withExpressionItem, columnList, expressionList, columnAlias}
 use Rattle.table.specs.Forest.{Forest}
+use Rattle.table.specs.Rules.{mostRecords}
 use Rattle.scope.specs.declared.scope.NameBinding.{NameBinding}
 use Rattle.scope.specs.declared.scope.Bound.{Bound}
 use Rattle.scope.specs.declared.scope.Asked.{Asked}
@@ -23,11 +24,6 @@ use Rattle.scope.specs.ScopeQuestions.{referenceRow, bindingRow, collect
 abbrev pub same : List ℕ → List ℕ
 same e = e
 
--- the rows of a list of entries
-unfoldable pub rows : {E : Type 0} → (E → List ℕ) → List E → List (List ℕ)
-rows row [] = []
-rows row (e ∷ es) = row e ∷ rows row es
-
 -- what a table reading writes
 unfoldable pub rowsOf : Reads → Listing (List ℕ)
 rowsOf Aliases = record { reference = λ t. []; alias = λ b. bindingRow b ∷ [] }
@@ -35,9 +31,9 @@ rowsOf References = record { reference = λ t. referenceRow t ∷ []; alias = λ
 
 -- a node's own part
 unfoldable pub ownRows : Asked → List ℕ → ℕ → Forest → List (List ℕ)
-ownRows WithNames src k below = rows bindingRow (ownWith src k below)
+ownRows WithNames src k below = map bindingRow (ownWith src k below)
 ownRows TableAliases src k below = ownTables (rowsOf Aliases) src k below
-ownRows ColumnAliases src k below = rows bindingRow (ownColumns src k below)
+ownRows ColumnAliases src k below = map bindingRow (ownColumns src k below)
 ownRows TableRefs src k below = ownTables (rowsOf References) src k below
 
 -- the list of record i
@@ -50,6 +46,10 @@ width WithNames = 24
 width TableAliases = 24
 width ColumnAliases = 24
 width TableRefs = 28
+
+-- how many bytes a node's own part takes at most: two references for each record
+abbrev pub mostBytes : ℕ
+mostBytes = 56 * mostRecords
 
 -- ---- WITH items or column aliases, by what binds the names
 

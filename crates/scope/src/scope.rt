@@ -27,7 +27,7 @@ use table::stretch::stretch_of;
 ghost use mathlib.Core.Path.{_≡_};
 ghost use mathlib.Core.Bool.{cond, _&&_, not};
 ghost use mathlib.Core.List.{List, [], _∷_};
-ghost use Prim.Native.Nat.{ℕ, _+_, _-_, _*_, _≤_, _<_};
+ghost use Prim.Native.Nat.{_+_, _*_, _/_, _≤_, _<_};
 ghost use lib.ListN.{length};
 ghost use lib.Dec.{eqb};
 ghost use Rattle.table.specs.Kinds.{isNode, subqueryExpression};
@@ -36,12 +36,17 @@ ghost use Rattle.table.specs.Forest.{kids};
 ghost use Rattle.table.specs.Rules.{mostRecords, rootRules};
 ghost use Rattle.table.specs.Lists.{listed, lent, Written};
 ghost use Rattle.scope.specs.Names.{absent, span, byteAt, isAs, isPart, isName, direct, isMark, unquoted, nameOf, binding, withItem, aliasIn};
-ghost use Rattle.scope.specs.Scope.{entry, fresh, aliased, handOn, listAlias, reading};
+ghost use Rattle.scope.specs.Scope.{entry, withItems, selectAliases, fresh, aliased, handOn, listAlias, reading, ownTables};
 ghost use Rattle.scope.specs.ScopeQuestions.{referenceRow, bindingRow, collectionOf, withNames, tableAliases, columnAliases, tableRefs};
-ghost use Rattle.scope.specs.ScopeRows.{same, rowsOf, ownRows, rowsAt, width, binderKind, isList, binds, names};
+ghost use Rattle.scope.specs.ScopeRows.{same, rowsOf, ownRows, rowsAt, width, mostBytes, binderKind, isList, binds, names};
 
 // The start and the end of an absent range.
 const ABSENT: usize = 4294967295;
+
+// How many bytes the entry of a binding takes, and of a reference.
+const BINDING_BYTES: usize = 24;
+
+const REFERENCE_BYTES: usize = 28;
 
 pub struct Range {
     pub start: usize,
@@ -482,4 +487,142 @@ fn collect_table_refs(
         }
     }
     hand_on(reads, pending, out, next)
+}
+
+// The items of a WITH clause, the first record of the stretch s.
+fn collect_ctes(s: &[u8], base: usize, source: &[u8], out: &mut [u8], at: usize) -> usize
+    requires { ⌜ (0 < count (now s)) × (base + count (now s) ≤ mostRecords) × (at + 24 * count (now s) < 1152921504606846976) ⌝ }
+    ensures { λ r. ⌜ Written bindingRow (withItems (now (source .entry)) (kids (records base (now (s .entry))))) (now (out .entry)) at (now (out .exit)) r
+        × (r ≤ at + 24 * count (now (s .entry))) ⌝ }
+{
+    collect_bound(Binder::Item, s, base, source, out, at)
+}
+
+// The column aliases of a SELECT clause, the first record of the stretch s.
+fn collect_column_aliases(s: &[u8], base: usize, source: &[u8], out: &mut [u8], at: usize) -> usize
+    requires { ⌜ (0 < count (now s)) × (base + count (now s) ≤ mostRecords) × (at + 24 * count (now s) < 1152921504606846976) ⌝ }
+    ensures { λ r. ⌜ Written bindingRow (selectAliases (now (source .entry)) (kids (records base (now (s .entry))))) (now (out .entry)) at (now (out .exit)) r
+        × (r ≤ at + 24 * count (now (s .entry))) ⌝ }
+{
+    collect_bound(Binder::Alias, s, base, source, out, at)
+}
+
+// The own part of a node in a list of what a table reading reads.
+fn own_tables(
+    reads: Reads,
+    s: &[u8],
+    base: usize,
+    source: &[u8],
+    out: &mut [u8],
+    at: usize,
+) -> usize
+    requires { ⌜ (0 < count (now s)) × (base + count (now s) ≤ mostRecords) × (at + 56 * count (now s) < 1152921504606846976) ⌝ }
+    ensures { λ r. ⌜ Written same (ownTables (rowsOf reads) (now (source .entry)) (kindAt (now (s .entry)) 0) (kids (records base (now (s .entry))))) (now (out .entry)) at (now (out .exit)) r
+        × (r ≤ at + 56 * count (now (s .entry))) ⌝ }
+{
+    let kind = kind_at(s, 0);
+    if (kind == FROM_CLAUSE) | (kind == JOIN_CLAUSE) {
+        collect_table_refs(reads, s, base, source, out, at)
+    } else {
+        at
+    }
+}
+
+// The own part of a node, the first record of the stretch s, in the list that is asked for.
+fn own_part(asked: Asked, s: &[u8], base: usize, source: &[u8], out: &mut [u8], at: usize) -> usize
+    requires { ⌜ (0 < count (now s)) × (base + count (now s) ≤ mostRecords) × (at + 56 * count (now s) < 1152921504606846976) ⌝ }
+    ensures { λ r. ⌜ Written same (ownRows asked (now (source .entry)) (kindAt (now (s .entry)) 0) (kids (records base (now (s .entry))))) (now (out .entry)) at (now (out .exit)) r
+        × (r ≤ at + 56 * count (now (s .entry))) ⌝ }
+{
+    let kind = kind_at(s, 0);
+    match asked {
+        Asked::WithNames => {
+            if kind == WITH_CLAUSE {
+                collect_ctes(s, base, source, out, at)
+            } else {
+                at
+            }
+        }
+        Asked::ColumnAliases => {
+            if kind == SELECT_CLAUSE {
+                collect_column_aliases(s, base, source, out, at)
+            } else {
+                at
+            }
+        }
+        Asked::TableAliases => own_tables(Reads::Aliases, s, base, source, out, at),
+        Asked::TableRefs => own_tables(Reads::References, s, base, source, out, at),
+    }
+}
+
+// Is a child of kind k a node that collection visits?
+fn visits(k: usize) -> bool
+    ensures { λ r. ⌜ r ≡ (isNode k && not (eqb k subqueryExpression)) ⌝ }
+{
+    is_node(k) & (k != SUBQUERY_EXPRESSION)
+}
+
+// The collection of the node at the head of the stretch s, whose number is base: writes the list that is asked for into out from byte `at`
+// on, and returns where the next entry goes.
+fn collect_scope(
+    asked: Asked,
+    s: &[u8],
+    base: usize,
+    source: &[u8],
+    out: &mut [u8],
+    at: usize,
+) -> usize
+    requires { ⌜ (0 < count (now s)) × (base + count (now s) ≤ mostRecords) × (at + mostBytes * count (now s) < 1152921504606846976) ⌝ }
+    ensures { λ r. ⌜ Written same (collectionOf (ownRows asked (now (source .entry))) base (now (s .entry))) (now (out .entry)) at (now (out .exit)) r
+        × (r ≤ at + mostBytes * count (now (s .entry))) ⌝ }
+{
+    let m = count_of(s);
+    let mut next = own_part(asked, s, base, source, out, at);
+    if kind_at(s, 0) == WITH_CLAUSE {
+        return next;
+    }
+    let mut i = child_from(s, 1);
+    while i < m {
+        if visits(kind_at(s, i)) {
+            let part = stretch_of(s, i);
+            next = collect_scope(asked, part, base + i, source, out, next);
+            i = child_from(s, i + count_of(part));
+        } else {
+            i = child_from(s, i + 1);
+        }
+    }
+    next
+}
+
+// How many entries of a list have this many bytes.
+fn entries_of(asked: Asked, size: usize) -> usize
+    ensures { λ r. ⌜ (r ≡ size / width asked) × (r ≤ size) ⌝ }
+{
+    match asked {
+        Asked::WithNames => size / BINDING_BYTES,
+        Asked::TableAliases => size / BINDING_BYTES,
+        Asked::ColumnAliases => size / BINDING_BYTES,
+        Asked::TableRefs => size / REFERENCE_BYTES,
+    }
+}
+
+// One list of a root: counted on an empty part of the buffer, and written if it has room.
+fn list_of(asked: Asked, table: &[u8], source: &[u8], root: usize, out: &mut [u8]) -> Listed
+    ensures { λ r. ⌜ (r ≡ listed (rootRules (now (table .entry)) (length (now (source .entry))) root) same (rowsAt asked (now (source .entry)) (now (table .entry)) root) (now (out .entry)))
+        × (now (out .exit) ≡ lent (rootRules (now (table .entry)) (length (now (source .entry))) root) same (rowsAt asked (now (source .entry)) (now (table .entry)) root) (now (out .entry))) ⌝ }
+{
+    match check_root(table, source, root) {
+        Verdict::Refused(k, d) => Listed::Refused(k, d),
+        Verdict::Admitted => {
+            let s = stretch_of(table, root);
+            let size = collect_scope(asked, s, root, source, &mut out[..0], 0);
+            let entries = entries_of(asked, size) as u32;
+            if size <= out.len() {
+                collect_scope(asked, s, root, source, out, 0);
+                Listed::Entries(entries)
+            } else {
+                Listed::Refused(7, entries)
+            }
+        }
+    }
 }
