@@ -626,3 +626,35 @@ fn list_of(asked: Asked, table: &[u8], source: &[u8], root: usize, out: &mut [u8
         }
     }
 }
+
+// The WITH names of a root.
+pub fn with_names(table: &[u8], source: &[u8], root: usize, out: &mut [u8]) -> Listed
+    ensures { λ r. ⌜ (r ≡ listed (rootRules (now (table .entry)) (length (now (source .entry))) root) bindingRow (withNames (now (source .entry)) (now (table .entry)) root) (now (out .entry)))
+        × (now (out .exit) ≡ lent (rootRules (now (table .entry)) (length (now (source .entry))) root) bindingRow (withNames (now (source .entry)) (now (table .entry)) root) (now (out .entry))) ⌝ }
+{
+    list_of(Asked::WithNames, table, source, root, out)
+}
+
+// The table aliases of a root.
+pub fn table_aliases(table: &[u8], source: &[u8], root: usize, out: &mut [u8]) -> Listed
+    ensures { λ r. ⌜ (r ≡ listed (rootRules (now (table .entry)) (length (now (source .entry))) root) bindingRow (tableAliases (now (source .entry)) (now (table .entry)) root) (now (out .entry)))
+        × (now (out .exit) ≡ lent (rootRules (now (table .entry)) (length (now (source .entry))) root) bindingRow (tableAliases (now (source .entry)) (now (table .entry)) root) (now (out .entry))) ⌝ }
+{
+    list_of(Asked::TableAliases, table, source, root, out)
+}
+
+// The column aliases of a root.
+pub fn column_aliases(table: &[u8], source: &[u8], root: usize, out: &mut [u8]) -> Listed
+    ensures { λ r. ⌜ (r ≡ listed (rootRules (now (table .entry)) (length (now (source .entry))) root) bindingRow (columnAliases (now (source .entry)) (now (table .entry)) root) (now (out .entry)))
+        × (now (out .exit) ≡ lent (rootRules (now (table .entry)) (length (now (source .entry))) root) bindingRow (columnAliases (now (source .entry)) (now (table .entry)) root) (now (out .entry))) ⌝ }
+{
+    list_of(Asked::ColumnAliases, table, source, root, out)
+}
+
+// The table references of a root.
+pub fn table_refs(table: &[u8], source: &[u8], root: usize, out: &mut [u8]) -> Listed
+    ensures { λ r. ⌜ (r ≡ listed (rootRules (now (table .entry)) (length (now (source .entry))) root) referenceRow (tableRefs (now (source .entry)) (now (table .entry)) root) (now (out .entry)))
+        × (now (out .exit) ≡ lent (rootRules (now (table .entry)) (length (now (source .entry))) root) referenceRow (tableRefs (now (source .entry)) (now (table .entry)) root) (now (out .entry))) ⌝ }
+{
+    list_of(Asked::TableRefs, table, source, root, out)
+}
