@@ -390,6 +390,13 @@ fn extract_table_identifier(s: &[u8], base: usize) -> Pending
     })
 }
 
+fn set_alias(mut t: TableRef, alias: Range) -> TableRef
+    ensures { λ r. ⌜ r ≡ record { «record» = t .«record»; database = t .database; table = t .table; alias = alias } ⌝ }
+{
+    t.alias = alias;
+    t
+}
+
 // The pending reference after an alias.
 fn with_alias(p: Pending, b: Bound) -> Pending
     ensures { λ r. ⌜ r ≡ aliased p b ⌝ }
@@ -397,17 +404,10 @@ fn with_alias(p: Pending, b: Bound) -> Pending
     match p {
         Pending::Nothing => Pending::Nothing,
         Pending::Held(t) => match b {
-            Bound::Unnamed => Pending::Held(t),
+            Bound::Unnamed => p,
             Bound::Named(n) => {
-                let database = t.database;
-                let table = t.table;
-                let alias = n.name;
-                Pending::Held(TableRef {
-                    record: t.record,
-                    database,
-                    table,
-                    alias,
-                })
+                let name = n.name;
+                Pending::Held(set_alias(t, name))
             }
         },
     }
