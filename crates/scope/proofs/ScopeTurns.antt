@@ -26,7 +26,7 @@ use Rattle.scope.specs.declared.scope.Asked.the-variants.{WithNames, Tab
 use Rattle.scope.specs.Names.{isPart, direct, aliasIn}
 use Rattle.scope.specs.Scope.{entry, gathered, withItems, selectAliases, entered, collected, collection, fresh, aliased, Listing, handOn, listAlias, reading, ownWith, ownColumns, ownTables}
 use Rattle.scope.specs.ScopeQuestions.{referenceRow, bindingRow, collectionOf}
-use Rattle.scope.specs.ScopeRows.{rowsOf, ownRows, binderKind, isList, binds, names}
+use Rattle.scope.specs.ScopeRows.{rowsOf, pends, ownRows, binderKind, isList, binds, names}
 
 -- the kind of a record
 pub kind-of : (s : List ℕ) (base i : ℕ) → recordAt s base i .kind ≡ kindAt s i
@@ -103,14 +103,16 @@ alias-none Nothing b = refl
 alias-none (Held t) Unnamed = refl
 alias-none (Held t) (Named b) = refl
 
-pub alias-nothing : (reads : Reads) (b : Bound) → listAlias (rowsOf reads) Nothing b ≡ []
+pub alias-idle : (reads : Reads) (p : Pending) (b : Bound) {x : Bool} → x ≡ pends p → x ≡ false → listAlias (rowsOf reads) p b ≡ []
 unfolding listAlias
-alias-nothing reads b = refl
+alias-idle reads Nothing b e y = refl
+alias-idle reads (Held t) b e y = absurd (let z : _≡_ {A = ℕ} 0 1 = cc in omega arith)
 
-pub alias-held : (t : TableRef) (b : Bound) → listAlias (rowsOf Aliases) (Held t) b ≡ map bindingRow (entry b)
+pub alias-held : (p : Pending) (b : Bound) {x : Bool} → x ≡ pends p → x ≡ true → listAlias (rowsOf Aliases) p b ≡ map bindingRow (entry b)
 unfolding listAlias rowsOf entry
-alias-held t Unnamed = refl
-alias-held t (Named b) = refl
+alias-held Nothing b e y = absurd (let z : _≡_ {A = ℕ} 0 1 = cc in omega arith)
+alias-held (Held t) Unnamed e y = refl
+alias-held (Held t) (Named b) e y = refl
 
 -- ---- the table reading: what it has yet to read with p pending, at a record of each kind
 

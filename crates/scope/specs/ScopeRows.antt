@@ -1,7 +1,7 @@
 -- How one walk serves the four lists: its entries are rows of numbers, and which list is asked for says what is a node's own part.
 -- Definitions only. A reader of the questions needs none of them.
 use Prim.Native.Nat.{ℕ, _*_}
-use mathlib.Core.Bool.{Bool, _||_}
+use mathlib.Core.Bool.{Bool, true, false, _||_}
 use mathlib.Core.List.{List, [], _∷_, map}
 use lib.Dec.{eqb}
 use Rattle.table.specs.declared.record.Rec.{Rec}
@@ -10,6 +10,8 @@ use Rattle.table.specs.Forest.{Forest}
 use Rattle.table.specs.Rules.{mostRecords}
 use Rattle.scope.specs.declared.scope.NameBinding.{NameBinding}
 use Rattle.scope.specs.declared.scope.Bound.{Bound}
+use Rattle.scope.specs.declared.scope.Pending.{Pending}
+use Rattle.scope.specs.declared.scope.Pending.the-variants.{Nothing, Held}
 use Rattle.scope.specs.declared.scope.Asked.{Asked}
 use Rattle.scope.specs.declared.scope.Asked.the-variants.{WithNames, TableAliases, ColumnAliases, TableRefs}
 use Rattle.scope.specs.declared.scope.Binder.{Binder}
@@ -28,6 +30,11 @@ same e = e
 unfoldable pub rowsOf : Reads → Listing (List ℕ)
 rowsOf Aliases = record { reference = λ t. []; alias = λ b. bindingRow b ∷ [] }
 rowsOf References = record { reference = λ t. referenceRow t ∷ []; alias = λ b. [] }
+
+-- is a reference pending
+abbrev pub pends : Pending → Bool
+pends Nothing = false
+pends (Held t) = true
 
 -- a node's own part
 unfoldable pub ownRows : Asked → List ℕ → ℕ → Forest → List (List ℕ)

@@ -38,7 +38,7 @@ ghost use Rattle.table.specs.Lists.{listed, lent, Written};
 ghost use Rattle.scope.specs.Names.{absent, span, byteAt, isAs, isPart, isName, direct, isMark, unquoted, nameOf, binding, withItem, aliasIn};
 ghost use Rattle.scope.specs.Scope.{entry, withItems, selectAliases, fresh, aliased, handOn, listAlias, reading, ownTables};
 ghost use Rattle.scope.specs.ScopeQuestions.{referenceRow, bindingRow, collectionOf, withNames, tableAliases, columnAliases, tableRefs};
-ghost use Rattle.scope.specs.ScopeRows.{same, rowsOf, ownRows, rowsAt, width, mostBytes, binderKind, isList, binds, names};
+ghost use Rattle.scope.specs.ScopeRows.{same, rowsOf, ownRows, rowsAt, width, mostBytes, pends, binderKind, isList, binds, names};
 
 // The start and the end of an absent range.
 const ABSENT: usize = 4294967295;
@@ -413,6 +413,15 @@ fn with_alias(p: Pending, b: Bound) -> Pending
     }
 }
 
+fn is_pending(p: Pending) -> bool
+    ensures { λ r. ⌜ r ≡ pends p ⌝ }
+{
+    match p {
+        Pending::Nothing => false,
+        Pending::Held(_) => true,
+    }
+}
+
 // Writes an alias that is set, if aliases are read, and returns where the next entry goes.
 fn put_alias(reads: Reads, p: Pending, b: Bound, out: &mut [u8], at: usize) -> usize
     requires { ⌜ at < 1152921504606846976 ⌝ }
@@ -420,10 +429,13 @@ fn put_alias(reads: Reads, p: Pending, b: Bound, out: &mut [u8], at: usize) -> u
 {
     match reads {
         Reads::References => at,
-        Reads::Aliases => match p {
-            Pending::Nothing => at,
-            Pending::Held(_) => put_bound(b, out, at),
-        },
+        Reads::Aliases => {
+            if is_pending(p) {
+                put_bound(b, out, at)
+            } else {
+                at
+            }
+        }
     }
 }
 

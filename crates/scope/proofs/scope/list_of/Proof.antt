@@ -13,7 +13,7 @@ list-of-spec =
     (λ c κs. search needs)  -- check-root-requires
     (λ c. search needs)  -- enum-known-k
     (λ c. search needs)  -- enum-told
-    (λ c κs. root-some _ _ _ (c .before .before .check-root .ensures) (c .enum-told .given .1) .1)  -- stretch-of-requires
+    (λ c κs. omega (arith, root-some _ _ _ (c .before .before .check-root .ensures) (c .enum-told .given .1)))  -- stretch-of-requires
     (λ c. search needs)  -- slice-relend-prefix-collect-scope
     (λ c. search needs)  -- slice-aggregate-collect-scope
     (λ c κs. omega (arith, root-some _ _ _ (c .before .before .before .before .check-root .ensures) (c .before .before .enum-told .given .1)))  -- collect-scope-requires

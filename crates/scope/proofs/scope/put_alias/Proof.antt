@@ -1,4 +1,4 @@
-use Rattle.scope.proofs.ScopeTurns.{alias-none, alias-held, alias-nothing}
+use Rattle.scope.proofs.ScopeTurns.{alias-none, alias-held, alias-idle}
 use Rattle.table.proofs.Writes.{written-none, written-map}
 use Rattle.scope.specs.ScopeQuestions.{bindingRow}
 use Rattle.scope.specs.ScopeRows.{same}
@@ -13,10 +13,9 @@ put-alias-spec =
     (tie.spec
     (λ c. search needs)  -- enum-told
     (λ c. search needs)  -- enum-told-2
-    (λ c. search needs)  -- enum-told-3
-    (λ c. search needs)  -- enum-told-4
+    (λ c κs. search needs)  -- is-pending-requires
     (λ c κs. search needs)  -- put-bound-requires
     (λ c. (rw (c .enum-told .given .1, alias-none _ _) (written-none same _ _), omega arith))  -- returns
-    (λ c. (rw (c .enum-told3 .given .1, alias-nothing _ _) (written-none same _ _), omega arith))  -- returns-2
     (λ c. search needs)  -- same-length
-    (λ c. (rw (c .before .before .before .before .before .before .enum-told2 .given .1, c .before .before .before .before .enum-told4 .given .1, alias-held _ _) (written-map bindingRow _ (c .before .before .put-bound .ensures .0)), omega arith)))  -- returns-3
+    (λ c. (rw (c .before .before .before .before .before .before .enum-told2 .given .1, alias-held _ _ (c .before .before .before .before .before .is-pending .ensures) (c .before .before .before .before .if1 .taken)) (written-map bindingRow _ (c .before .before .put-bound .ensures .0)), omega arith))  -- returns-2
+    (λ c. (rw (alias-idle _ _ _ (c .before .is-pending .ensures) (c .if1 .left)) (written-none same _ _), omega arith)))  -- returns-3
