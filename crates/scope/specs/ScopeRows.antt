@@ -58,6 +58,10 @@ width TableRefs = 28
 abbrev pub mostBytes : ℕ
 mostBytes = 56 * mostRecords
 
+-- below which place a byte is that can be written: what `put_entry` asks, far behind every list
+abbrev pub farthest : ℕ
+farthest = 1152921504606846976
+
 -- ---- WITH items or column aliases, by what binds the names
 
 -- the kind of what binds them

@@ -13,5 +13,5 @@ own-tables-spec =
     (λ c κs. search needs)  -- kind-at-requires
     (λ c κs. search needs)  -- collect-table-refs-requires
     (λ c. search needs)  -- same-length
-    (λ c. (rw (← c .before .before .before .before .before .kind-at .ensures .0, tables-yes _ _ _ _ (c .before .before .before .before .if1 .taken)) (c .before .before .collect-table-refs .ensures .0), omega arith))  -- returns
-    (λ c. (rw (← c .before .kind-at .ensures .0, tables-no _ _ _ _ (c .if1 .left)) (written-none same _ _), omega arith)))  -- returns-2
+    (λ c. (rw (← c .before .before .before .before .before .kind-at .ensures .0, tables-yes _ (c .before .before .before .before .before .kind-at .result) _ _ (c .before .before .before .before .if1 .taken)) (c .before .before .collect-table-refs .ensures .0), omega arith))  -- returns
+    (λ c. (rw (← c .before .kind-at .ensures .0, tables-no _ (c .before .kind-at .result) _ _ (c .if1 .left)) (written-none same _ _), omega arith)))  -- returns-2
