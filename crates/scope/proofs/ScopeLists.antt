@@ -1,13 +1,12 @@
 -- From the rows that the walks write to the four lists of typed entries.
 -- Assumes nothing.
 use Prim.Native.Nat.{ℕ, _+_, _*_, _/_, _≤_, _<_}
-use mathlib.Core.Path.{_≡_, refl, sym, ap, _∙_}
+use mathlib.Core.Path.{_≡_, refl, sym, _∙_}
 use mathlib.Core.Bool.{Bool, true, false, cond, _||_}
-use mathlib.Core.List.{List, [], _∷_, _++_, map, map-append}
+use mathlib.Core.List.{List, [], _++_, map, map-append}
 use native.Mathlib.Omega.{arith}
 use lib.Dec.{eqb}
 use lib.ListN.{length, length-map}
-use Rattle.table.specs.declared.record.Rec.{Rec}
 use Rattle.table.specs.declared.check.Verdict.{Verdict}
 use Rattle.table.specs.declared.check.Verdict.the-variants.{Admitted, Refused}
 use Rattle.table.specs.declared.list.Listed.{Listed}
@@ -19,15 +18,12 @@ use Rattle.table.specs.Rules.{mostRecords, Rule, first, rootRules, rootVerdict}
 use Rattle.table.specs.Lists.{numberBytes, listBytes, listed, lent, Written}
 use Rattle.table.proofs.Checks.{root-known}
 use Rattle.table.proofs.Writes.{length-wide, bytes-map, listed-map, lent-map, sized-written, sized-denied}
-use Rattle.scope.specs.declared.scope.TableRef.{TableRef}
-use Rattle.scope.specs.declared.scope.NameBinding.{NameBinding}
 use Rattle.scope.specs.declared.scope.Bound.{Bound}
 use Rattle.scope.specs.declared.scope.Bound.the-variants.{Unnamed, Named}
 use Rattle.scope.specs.declared.scope.Pending.{Pending}
 use Rattle.scope.specs.declared.scope.Pending.the-variants.{Nothing, Held}
 use Rattle.scope.specs.declared.scope.Asked.{Asked}
 use Rattle.scope.specs.declared.scope.Asked.the-variants.{WithNames, TableAliases, ColumnAliases, TableRefs}
-use Rattle.scope.specs.declared.scope.Reads.the-variants.{Aliases, References}
 use Rattle.scope.specs.Names.{isPart, direct, aliasIn}
 use Rattle.scope.specs.Scope.{entered, collected, collection, fresh, aliased, Listing, handOn, listAlias, reading, references, aliases, ownWith, ownColumns, ownTables}
 use Rattle.scope.specs.ScopeQuestions.{referenceRow, bindingRow, collectionOf, withNames, tableAliases, columnAliases, tableRefs}

@@ -1,10 +1,10 @@
 -- Names token by token: what a loop over the direct tokens of a node makes of each record.
 -- Assumes nothing.
 use Prim.Native.Nat.{ℕ, _+_, _-_, _≤_, _<_}
-use mathlib.Core.Path.{_≡_, refl, sym, ap, _∙_}
+use mathlib.Core.Path.{_≡_, refl, sym, _∙_}
 use mathlib.Core.Bool.{Bool, true, false, cond, not, _&&_, _||_}
 use mathlib.Core.Logic.{⊎-elim}
-use mathlib.Core.List.{List, [], _∷_}
+use mathlib.Core.List.{List, _∷_}
 use native.Mathlib.Omega.{arith}
 use borrow.Author.Tests.{eq-eqb, ne-eqb, le-leb, lt-leb}
 use lib.Dec.{eqb}
@@ -17,7 +17,7 @@ use Rattle.table.proofs.Laws.{node-or-token}
 use Rattle.scope.specs.declared.scope.NameBinding.{NameBinding}
 use Rattle.scope.specs.declared.scope.Bound.{Bound}
 use Rattle.scope.specs.declared.scope.Bound.the-variants.{Unnamed, Named}
-use Rattle.scope.specs.Names.{byteAt, isPart, isName, isAs, isMark, unquoted, direct, binding, firstOf, lastOf, withItem, aliasIn}
+use Rattle.scope.specs.Names.{byteAt, isPart, isName, isAs, isMark, unquoted, direct, binding, firstOf, lastOf, withItem}
 
 -- ---- texts
 

@@ -1,8 +1,8 @@
 -- What a turn of each walk writes, by the kind of the record that it stands at.
 -- Assumes nothing.
 use Prim.Native.Nat.{ℕ, _+_, _≤_, _<_}
-use mathlib.Core.Path.{_≡_, refl, sym, ap, _∙_}
-use mathlib.Core.Bool.{Bool, true, false, cond, _||_, not, _&&_}
+use mathlib.Core.Path.{_≡_, refl, sym, _∙_}
+use mathlib.Core.Bool.{Bool, true, false, _||_, not, _&&_}
 use mathlib.Core.List.{List, [], _∷_, _++_, map, append-assoc, append-nil}
 use native.Mathlib.Omega.{arith}
 use borrow.Author.Tests.{eqb-true, eqb-false, leb-true, eq-eqb, ne-eqb, le-leb}
@@ -12,7 +12,6 @@ use Rattle.table.specs.Kinds.{lastNode, isNode, withClause, selectClause, fromC
 use Rattle.table.specs.Table.{count, kindAt, recordAt, records, part}
 use Rattle.table.specs.Forest.{Forest, nil, token, node, kids, stretchEnd}
 use Rattle.table.proofs.Laws.{head-part}
-use Rattle.scope.specs.declared.scope.NameBinding.{NameBinding}
 use Rattle.scope.specs.declared.scope.Bound.{Bound}
 use Rattle.scope.specs.declared.scope.Binder.{Binder}
 use Rattle.scope.specs.declared.scope.Binder.the-variants.{Item, Alias}

@@ -6,7 +6,7 @@ use Rattle.table.proofs.Walks.{Walk, walk-start, walk-end, walk-next, walk-node
 use Rattle.table.specs.Forest.{kids}
 use Rattle.table.specs.Table.{records}
 use lib.ListN.{length}
-use mathlib.Core.Path.{_≡_, sym, _∙_}
+use mathlib.Core.Path.{_≡_}
 use Prim.Native.Nat.{_+_, _-_, _*_, _≤_}
 use native.Mathlib.Omega.{arith}
 use Prim.Native.Nat.{ℕ, _<_}
