@@ -18,11 +18,11 @@ use Rattle.table.specs.declared.check.Verdict.{Verdict}
 use Rattle.table.specs.declared.check.Verdict.the-variants.{Admitted, Refused}
 use Rattle.scope.specs.declared.bracket_matching.HintReply.the-variants.{Hinted, Refused as Away}
 use Rattle.table.specs.declared.list.Listed.the-variants.{Entries, Refused as Denied}
-use Rattle.table.specs.Lists.{numberBytes, rowBytes, listBytes, put, Written, listed, lent}
+use Rattle.table.specs.Lists.{numberBytes, put, Written, listed, lent}
 use Rattle.table.specs.Text.{same}
 use Rattle.table.proofs.Laws.{lt-or-le, eq-or-not}
 use Rattle.table.proofs.Texts.{both, differ}
-use Rattle.table.proofs.Writes.{written-none, written-one, written-then, list-filled, list-short}
+use Rattle.table.proofs.Writes.{written-none, written-one, written-then, length-wide, list-filled, list-short}
 use Rattle.scope.specs.Brackets.{isOpener, isCloser, fits, closed, stepped, left, stackLeft, indexOf, openersLeft, row, holding, lastOf, hintOf, hinted, Holds}
 use Rattle.scope.specs.BracketStack.{packed, unpacked, stackOf, closedBy, steppedBy, leftBy, lastBy, hintBy}
 use Rattle.scope.specs.declared.bracket_matching.Hint.{Hint}
@@ -296,11 +296,6 @@ pub from-empty : (array : List ℕ) (f : Forest) {st : List ℕ} → st ≡ left
 unfolding stackOf
 from-empty array f e = e
 
-length-rows : (xs : List ℕ) → length (listBytes row xs) ≡ 4 * length xs
-unfolding listBytes rowBytes
-length-rows [] = refl
-length-rows (x ∷ xs) = omega (arith, length-rows xs)
-
 module _ (t array out : List ℕ) (n : ℕ) (e : stackOf array n ≡ leftBy [] (kids (records 0 t))) (h : n ≤ length array) where
   fours : 4 * n / 4 ≡ n
   fours = omega arith
@@ -308,7 +303,7 @@ module _ (t array out : List ℕ) (n : ℕ) (e : stackOf array n ≡ leftBy [] (
   pub openers-short : length out < 4 * n → (Denied 7 n ≡ listed [] row (openersLeft t) out) × (out ≡ lent [] row (openersLeft t) out)
   openers-short g =
       let l : length (openersLeft t) ≡ n = ap length (sym (openers-are t array n e h)) ∙ length-map (take n array) unpacked ∙ length-take-le n array h in
-      let r = list-short row 4 (λ x. refl) (omega arith) [] (openersLeft t) out refl {m = 4 * n} (omega (arith, length-rows (openersLeft t))) g in
+      let r = list-short row 4 (λ x. refl) (omega arith) [] (openersLeft t) out refl {m = 4 * n} (omega (arith, length-wide row 4 (λ x. refl) (openersLeft t))) g in
       rw fours at r
 
   pub openers-full : {out′ : List ℕ} → Written row (map unpacked (take n array)) out 0 out′ (4 * n) → 4 * n ≤ length out

@@ -12,7 +12,7 @@ use mathlib.Core.List.{List, [], _∷_, _++_}
 use native.Mathlib.Numerals.{add-one}
 use native.Mathlib.Nat.{zero-add}
 use native.Mathlib.Omega.{arith}
-use borrow.Author.Tests.{ltb-false, lt-ltb, le-ltb, ne-eqb}
+use borrow.Author.Tests.{ltb-true, ltb-false, lt-ltb, le-ltb, ne-eqb}
 use lib.Dec.{eqb, ltb}
 use lib.ListN.{length}
 use Rattle.table.specs.declared.record.Rec.{Rec}
@@ -23,7 +23,7 @@ use Rattle.table.specs.declared.check.Found.{Found}
 use Rattle.table.specs.declared.check.Found.the-variants.{Next, Broken}
 use Rattle.table.specs.Kinds.{isNode, isToken}
 use Rattle.table.specs.Table.{recordBytes, count, kindAt, depthAt, recordAt}
-use Rattle.table.specs.Rules.{mostRecords, mostDepth, badLength, unlisted, misplaced, tooDeep, badSpan, lastEnd, noRoot, Rule, rule, rulesAt, rulesFrom, rules, first, verdict, rootVerdict}
+use Rattle.table.specs.Rules.{mostRecords, mostDepth, badLength, tooLong, unlisted, misplaced, tooDeep, badSpan, lastEnd, noRoot, Rule, rule, rulesAt, rulesFrom, rules, first, verdict, rootVerdict}
 use Rattle.table.specs.Step.{deepest, knownAt, after, strange, outOfPlace, offSource, stepOf}
 use Rattle.table.proofs.Laws.{lt-or-le}
 
@@ -160,3 +160,28 @@ module _ (t : List ℕ) (n i : ℕ) where
   pub root-admitted : Admitted ≡ verdict t n 0 → noRoot t i ≡ false → Admitted ≡ rootVerdict t n i
   unfolding verdict rootVerdict
   root-admitted e h = sym (then-admitted (rules t n 0) (rule 8 0 (noRoot t i) ∷ []) e ∙ rw h)
+
+-- what is admitted breaks no rule: not the first, and not the last
+unbroken : (r : Rule) (rs : List Rule) → Admitted ≡ first (r ∷ rs) → r .broken ≡ false
+unbroken r rs e = go (r .broken) e
+  where
+    go : (b : Bool) → Admitted ≡ cond b (Refused (r .number) (r .detail)) (first rs) → b ≡ false
+    go true p = absurd (let z : _≡_ {A = ℕ} 0 1 = cc in omega arith)
+    go false p = refl
+
+last-unbroken : (rs : List Rule) (r : Rule) → Admitted ≡ first (rs ++ r ∷ []) → r .broken ≡ false
+last-unbroken [] r e = unbroken r [] e
+last-unbroken (x ∷ rs) r e = go (x .broken) (last-unbroken rs r) e
+  where
+    go : (b : Bool) → (Admitted ≡ first (rs ++ r ∷ []) → r .broken ≡ false) → Admitted ≡ cond b (Refused (x .number) (x .detail)) (first (rs ++ r ∷ [])) → r .broken ≡ false
+    go true ih p = absurd (let z : _≡_ {A = ℕ} 0 1 = cc in omega arith)
+    go false ih p = ih p
+
+-- where a question's root is admitted, there are at most 4,096 records, and the root is one of them
+pub root-known : (t : List ℕ) (n i : ℕ) → Admitted ≡ rootVerdict t n i → (count t ≤ mostRecords) × (i < count t)
+unfolding rootVerdict
+root-known t n i e = (few t (unbroken (rule 1 0 (badLength t)) (rule 2 0 (tooLong n 0) ∷ (rulesFrom t n 0 (count t) ++ rule 8 0 (noRoot t i) ∷ [])) e), within (ltb i (count t)) (isNode (kindAt t i)) refl (last-unbroken (rules t n 0) (rule 8 0 (noRoot t i)) e))
+  where
+    within : (a b : Bool) → ltb i (count t) ≡ a → not (a && b) ≡ false → i < count t
+    within true b q h = ltb-true i (count t) q
+    within false b q h = absurd (let z : _≡_ {A = ℕ} 0 1 = cc in omega arith)

@@ -316,6 +316,12 @@ module _ (t : List ℕ) (base k i : ℕ) where
         rw (q, kids-part d, rest-part d)
         (unfold siblings in rw (from-cons t base i ic) (level-node k (recordAt t base i) (from t base (i + 1)) d h))
 
+-- the first record of a stretch is its node
+pub head-part : (t : List ℕ) (base i : ℕ) {p : List ℕ} → i < count t → p ≡ part t i (stretchEnd t i) → recordAt p (base + i) 0 ≡ recordAt t base i
+head-part t base i h q =
+    let e = record-part t base i (stretchEnd t i) (le-of-lt (end-after t base 0 i h)) (end-within t base 0 i h) 0 (omega (arith, end-after t base 0 i h)) in
+    rw q (rw (add-zero i) at e)
+
 -- ---- the search for the next child, a record at a time
 
 -- a search for a child that began at j stands at i

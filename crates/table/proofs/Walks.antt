@@ -4,18 +4,21 @@
 --     walk-none, walk-start     a stretch with no record; before the first turn
 --     walk-end                  after the last child
 --     walk-token, walk-node     after a token; after a node, whose stretch is p
+--     walk-next                 after a record of whose stretch nothing is wanted, whether it is a token or a node
+--     walk-here                 at a token, where the answer comes from it
 --     walk-over                 after a node of whose stretch nothing is wanted: the search goes on right behind its record
 --     walk-into                 at a node whose stretch is p, where the answer comes from inside it
 --     walk-from                 before the first turn, where the walk is itself a turn of a descent
 -- Assumes nothing.
 use mathlib.Core.Path.{_≡_, refl, sym, ap, _∙_}
+use mathlib.Core.Logic.{⊎-elim}
 use mathlib.Core.List.{List}
 use Prim.Native.Nat.{ℕ, _+_, _≤_, _<_}
 use Rattle.table.specs.declared.record.Rec.{Rec}
 use Rattle.table.specs.Kinds.{isNode, lastNode}
 use Rattle.table.specs.Table.{recordBytes, count, kindAt, depthAt, recordAt, records, part}
 use Rattle.table.specs.Forest.{Forest, nil, token, node, kids, stretchEnd, children, Child}
-use Rattle.table.proofs.Laws.{kids-none, kids-first, siblings-end, siblings-token, siblings-node, siblings-after}
+use Rattle.table.proofs.Laws.{node-or-token, kids-none, kids-first, siblings-end, siblings-token, siblings-node, siblings-after}
 
 -- at record i, which is a child or the count
 pub record Walk {A : Type 0} (s : List ℕ) (base i : ℕ) (rest : Forest → A) («all» : A) : Type 0 where
@@ -59,3 +62,12 @@ module _ {A : Type 0} {s : List ℕ} {base i : ℕ} {rest : Forest → A} {«all
     unfolding children
     walk-over g c e =
         record { child = c .depth; left = rw (← c .same base, ← siblings-after s base (depthAt s 0 + 1) i h (w .child h)) (sym (e _ _) ∙ walk-into g refl) }
+
+    pub walk-here : lastNode < kindAt s i → rest (token (recordAt s base i) (children s base (i + 1))) ≡ «all»
+    unfolding children
+    walk-here g = rw (siblings-token s base (depthAt s 0 + 1) i h (w .child h) g) at (w .left)
+
+    pub walk-next : {rest′ : Forest → A} {r : ℕ} → Child s (i + 1) r
+        → (lastNode < kindAt s i → (f : Forest) → rest (token (recordAt s base i) f) ≡ rest′ f)
+        → (kindAt s i ≤ lastNode → (b f : Forest) → rest (node (recordAt s base i) b f) ≡ rest′ f) → Walk s base r rest′ «all»
+    walk-next c e n = ⊎-elim (λ g. walk-over g c (n g)) (λ g. walk-token g c (e g)) (node-or-token (kindAt s i))

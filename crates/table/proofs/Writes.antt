@@ -5,17 +5,19 @@
 --     writing-turn, writing-last    some of it is written; the last of it is
 --     writing-step, writing-end     the same where what is left to write keeps its form
 --     list-refused, list-admitted   a question that its own rules refuse; one that they admit
---     list-filled, list-short       all entries are written; they are counted, and have no room
---     list-written, list-denied     the same where they are counted on an empty part of the buffer itself
+--     sized-filled, sized-short     all entries are written; they are counted, and have no room
+--     sized-written, sized-denied   the same where they are counted on an empty part of the buffer itself
+--     list-filled, list-short       the same where every entry that there can be is of one width
+--     written-map, listed-map, ..   entries that are rows of numbers already
 -- Assumes nothing.
 use mathlib.Core.Path.{_≡_, refl, sym, ap, _∙_}
 use mathlib.Core.Bool.{cond}
-use mathlib.Core.List.{List, [], _∷_, _++_, append-assoc, append-nil}
+use mathlib.Core.List.{List, [], _∷_, _++_, map, append-assoc, append-nil}
 use Prim.Native.Nat.{ℕ, zero, suc, _+_, _*_, _/_, _≤_, _<_}
 use native.Mathlib.Omega.{arith}
 use native.Mathlib.Nat.{add-zero, zero-add, add-assoc, suc-mul, mul-div-cancel}
 use native.Mathlib.Numerals.{add-one}
-use lib.ListN.{length, take, drop, set, getD, length-append}
+use lib.ListN.{length, take, drop, set, getD, length-append, length-map}
 use lib.Seq.{sets, sets-eq, length-sets, take-suc, take-all, length-take-le}
 use lib.Dec.{ltb}
 use borrow.Author.Tests.{lt-ltb, le-ltb}
@@ -145,49 +147,77 @@ module _ {E : Type 0} (row : E → List ℕ) where
   unfolding listed lent
   list-admitted rs es out e q = rw (then-admitted rs (roomRule row es out ∷ []) e) q
 
-  -- entries of w bytes each
+  -- a list of entries of w bytes each
+  module _ (w : ℕ) (es : List E) (wide : length (listBytes row es) ≡ length es * w) (p : 0 < w) where
+    entries-of : (m : ℕ) → m ≡ length (listBytes row es) → m / w ≡ length es
+    entries-of m q = rw (q, wide) (mul-div-cancel (length es) p)
+
+    module _ (rs : List Rule) (out : List ℕ) (ok : Admitted ≡ first rs) where
+      pub sized-filled : {out′ : List ℕ} {m : ℕ} → Written row es out 0 out′ m → m ≤ length out
+          → (Entries (m / w) ≡ listed rs row es out) × (out′ ≡ lent rs row es out)
+      unfolding listed lent reply buffer
+      sized-filled {out′} {m} c h =
+          let v = listed-room rs es out ok (omega (arith, c .next)) in
+          (rw (← v, entries-of m (omega (arith, c .next))), rw (← v) (written-whole c (omega (arith, c .next))))
+
+      pub sized-short : {m : ℕ} → m ≡ length (listBytes row es) → length out < m → (Denied 7 (m / w) ≡ listed rs row es out) × (out ≡ lent rs row es out)
+      unfolding listed lent reply buffer
+      sized-short {m} c h =
+          let v = listed-short rs es out ok (omega arith) in
+          (rw (← v, entries-of m c), rw (← v))
+
+      -- a function counts by a call on an empty part of out, `&mut out[..0]`, and writes by another call if all have room
+      module _ {e l : List ℕ} {m : ℕ} (c : Written row es e 0 l m) (z : length l ≡ 0) where
+        pub sized-written : {out′ : List ℕ} {m′ : ℕ} → Written row es (l ++ out) 0 out′ m′ → m ≤ length (l ++ out)
+            → (Entries (m / w) ≡ listed rs row es out) × (out′ ≡ lent rs row es out)
+        sized-written {out′} {m′} c′ h =
+            let q : l ++ out ≡ out = front-none l out z in
+            let same : m′ ≡ m = omega (arith, c .next, c′ .next) in
+            rw same at (sized-filled (rw q at c′) (omega (arith, ap length q)))
+
+        pub sized-denied : length (l ++ out) < m → (Denied 7 (m / w) ≡ listed rs row es out) × (l ++ out ≡ lent rs row es out)
+        sized-denied h = let q : l ++ out ≡ out = front-none l out z in rw q (sized-short (omega (arith, c .next)) (omega (arith, ap length q)))
+
+  -- the same where every entry that there can be has w bytes
   module _ (w : ℕ) (wide : (e : E) → numberBytes * length (row e) ≡ w) where
-    length-wide : (es : List E) → length (listBytes row es) ≡ length es * w
+    pub length-wide : (es : List E) → length (listBytes row es) ≡ length es * w
     length-wide [] = (unfold listBytes in omega arith)
     length-wide (e ∷ es) = length-cons e es ∙ rw (wide e, length-wide es, suc-mul (length es) w) (omega arith)
 
-    entries-of : (es : List E) (m : ℕ) → 0 < w → m ≡ length (listBytes row es) → m / w ≡ length es
-    entries-of es m p q = rw (q, length-wide es) (mul-div-cancel (length es) p)
-
     module _ (p : 0 < w) (rs : List Rule) (es : List E) (out : List ℕ) (ok : Admitted ≡ first rs) where
-      -- all entries are written, and had room
       pub list-filled : {out′ : List ℕ} {m : ℕ} → Written row es out 0 out′ m → m ≤ length out → (Entries (m / w) ≡ listed rs row es out) × (out′ ≡ lent rs row es out)
-      unfolding listed lent reply buffer
-      list-filled {out′} {m} c h =
-          let v = listed-room rs es out ok (omega (arith, c .next)) in
-          (rw (← v, entries-of es m p (omega (arith, c .next))), rw (← v) (written-whole c (omega (arith, c .next))))
+      list-filled c h = sized-filled w es (length-wide es) p rs out ok c h
 
-      -- they were counted, and have no room
       pub list-short : {m : ℕ} → m ≡ length (listBytes row es) → length out < m → (Denied 7 (m / w) ≡ listed rs row es out) × (out ≡ lent rs row es out)
-      unfolding listed lent reply buffer
-      list-short {m} c h =
-          let v = listed-short rs es out ok (omega arith) in
-          (rw (← v, entries-of es m p c), rw (← v))
+      list-short c h = sized-short w es (length-wide es) p rs out ok c h
 
-    -- a function that counts by a call on an empty part of out, `&mut out[..0]`, and calls again to write if all have room
-    module _ (p : 0 < w) (rs : List Rule) (es : List E) (out : List ℕ) (ok : Admitted ≡ first rs) {e l : List ℕ} {m : ℕ}
-        (c : Written row es e 0 l m) (z : length l ≡ 0) where
-      pub list-written : {out′ : List ℕ} {m′ : ℕ} → Written row es (l ++ out) 0 out′ m′ → m ≤ length (l ++ out)
-          → (Entries (m / w) ≡ listed rs row es out) × (out′ ≡ lent rs row es out)
-      unfolding listed lent reply buffer
-      list-written c′ h =
-          let q : l ++ out ≡ out = front-none l out z in
-          let v = listed-room rs es out ok (omega (arith, c .next, ap length q)) in (
-            rw (← v, entries-of es m p (omega (arith, c .next))),
-            rw (← v) (written-whole (rw q at c′) (omega (arith, c .next, ap length q))),
-          )
+  -- ---- entries that are rows of numbers already: the same bytes, writes and answers
+  abbrev plain : List ℕ → List ℕ
+  plain r = r
 
-      pub list-denied : length (l ++ out) < m → (Denied 7 (m / w) ≡ listed rs row es out) × (l ++ out ≡ lent rs row es out)
-      unfolding listed lent reply buffer
-      list-denied h =
-          let q : l ++ out ≡ out = front-none l out z in
-          let v = listed-short rs es out ok (omega (arith, c .next, ap length q)) in
-          (rw (← v, entries-of es m p (omega (arith, c .next))), rw (← v) q)
+  pub bytes-map : (es : List E) → listBytes plain (map row es) ≡ listBytes row es
+  unfolding listBytes
+  bytes-map [] = refl
+  bytes-map (e ∷ es) = rw (bytes-map es)
+
+  fill-map : (out : List ℕ) (at : ℕ) (es : List E) → fill plain out at (map row es) ≡ fill row out at es
+  unfolding fill
+  fill-map out at [] = refl
+  fill-map out at (e ∷ es) = fill-map (put out at (row e)) (at + numberBytes * length (row e)) es
+
+  pub written-map : (es : List E) {out out′ : List ℕ} {at at′ : ℕ} → Written row es out at out′ at′ → Written plain (map row es) out at out′ at′
+  written-map es {out} {out′} {at} w = record { bytes = w .bytes ∙ sym (fill-map out at es); next = rw (bytes-map es) (w .next) }
+
+  verdict-map : (rs : List Rule) (es : List E) (out : List ℕ) → listVerdict rs plain (map row es) out ≡ listVerdict rs row es out
+  verdict-map rs es out = rw (bytes-map es, length-map es row)
+
+  pub listed-map : (rs : List Rule) (es : List E) (out : List ℕ) → listed rs plain (map row es) out ≡ listed rs row es out
+  unfolding listed
+  listed-map rs es out = rw (verdict-map rs es out, length-map es row)
+
+  pub lent-map : (rs : List Rule) (es : List E) (out : List ℕ) → lent rs plain (map row es) out ≡ lent rs row es out
+  unfolding lent
+  lent-map rs es out = rw (verdict-map rs es out, bytes-map es)
 
 -- ---- an entry, number by number
 

@@ -1,0 +1,13 @@
+use Rattle.scope.proofs.ScopeLists.{question, reference-rows}
+use Rattle.scope.specs.ScopeQuestions.{referenceRow}
+use borrow.Author.Needs.{needs}
+use Rattle.scope.proofs.scope.table_refs.Statement.{statement}
+use Rattle.scope.proofs.scope.table_refs.Tie as tie
+
+pub table-refs-spec : {M : Type 1} → statement M
+table-refs-spec =
+    tie.close
+    (tie.spec
+    (λ c κs. search needs)  -- list-of-requires
+    (λ c. search needs)  -- same-length
+    (λ c. question referenceRow _ _ _ (reference-rows _ _ _) (c .before .before .list-of .ensures)))  -- returns
