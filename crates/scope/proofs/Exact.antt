@@ -20,7 +20,7 @@ use Rattle.scope.proofs.Counts.{hits, reaches-hits, nearest, weight, du
 
 -- ---- sums of which few terms are left
 
-sum-same : {A : Type 0} (f g : A → ℕ) (xs : List A) → ((x : A) → f x ≡ g x) → sum f xs ≡ sum g xs
+pub sum-same : {A : Type 0} (f g : A → ℕ) (xs : List A) → ((x : A) → f x ≡ g x) → sum f xs ≡ sum g xs
 unfolding sum
 sum-same f g [] h = refl
 sum-same f g (x ∷ xs) h = rw (h x, sum-same f g xs h)
