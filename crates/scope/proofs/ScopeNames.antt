@@ -4,7 +4,7 @@ use Prim.Native.Nat.{ℕ, _+_, _-_, _≤_, _<_}
 use mathlib.Core.Path.{_≡_, refl, sym, _∙_}
 use mathlib.Core.Bool.{Bool, true, false, cond, not, _&&_, _||_}
 use mathlib.Core.Logic.{⊎-elim}
-use mathlib.Core.List.{List, _∷_}
+use mathlib.Core.List.{List, [], _∷_}
 use native.Mathlib.Omega.{arith}
 use borrow.Author.Tests.{eq-eqb, ne-eqb, le-leb, lt-leb}
 use lib.Dec.{eqb}
@@ -12,6 +12,7 @@ use Rattle.table.specs.declared.record.Rec.{Rec}
 use Rattle.table.specs.Kinds.{lastNode, bareWord, quotedIdentifier}
 use Rattle.table.specs.Table.{count, kindAt, recordAt}
 use Rattle.table.specs.Forest.{Forest, nil, token, node}
+use Rattle.table.specs.Text.{bytesOf, text, says}
 use Rattle.table.proofs.Walks.{Walk, walk-here}
 use Rattle.table.proofs.Laws.{node-or-token}
 use Rattle.scope.specs.declared.scope.NameBinding.{NameBinding}
@@ -22,14 +23,9 @@ use Rattle.scope.specs.Names.{byteAt, isPart, isName, isAs, isMark, unqu
 -- ---- texts
 
 module _ (src : List ℕ) (t : Rec) where
-  pub as-not : (t .end - t .start ≡ 2 → ⊥) → false ≡ isAs src t
-  unfolding isAs
-  as-not h = rw (ne-eqb (t .end - t .start) 2 h)
-
-  pub as-two : {a b : ℕ} → t .end - t .start ≡ 2 → a ≡ byteAt src (t .start) → b ≡ byteAt src (t .start + 1)
-      → ((eqb a 65 || eqb a 97) && (eqb b 83 || eqb b 115)) ≡ isAs src t
-  unfolding isAs
-  as-two h p q = rw (eq-eqb (t .end - t .start) 2 h, p, q)
+  pub as-said : {a : Bool} {w x : List ℕ} → x ≡ text src (t .start) (t .end) → w ≡ 65 ∷ 83 ∷ [] → a ≡ says w x → a ≡ isAs src t
+  unfolding isAs bytesOf
+  as-said q w e = rw (w, q) at e
 
   pub name-quoted : t .kind ≡ quotedIdentifier → true ≡ isName src t
   unfolding isName

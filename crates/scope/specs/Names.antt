@@ -9,6 +9,7 @@ use lib.ListN.{getD}
 use Rattle.table.specs.declared.record.Rec.{Rec}
 use Rattle.table.specs.Kinds.{bareWord, quotedIdentifier}
 use Rattle.table.specs.Forest.{Forest, nil, token, node}
+use Rattle.table.specs.Text.{bytesOf, text, says}
 use Rattle.scope.specs.declared.scope.Range.{Range}
 use Rattle.scope.specs.declared.scope.NameBinding.{NameBinding}
 use Rattle.scope.specs.declared.scope.Bound.{Bound}
@@ -30,12 +31,9 @@ span r = record { start = r .start; end = r .end }
 abbrev pub byteAt : List ℕ → ℕ → ℕ
 byteAt src i = getD src i 0
 
--- the token's text is AS in any ASCII case: A or a, and then S or s
+-- the token's text is AS in any ASCII case
 unfoldable pub isAs : List ℕ → Rec → Bool
-isAs src t =
-    eqb (t .end - t .start) 2
-    && ((eqb (byteAt src (t .start)) 65 || eqb (byteAt src (t .start)) 97)
-    && (eqb (byteAt src (t .start + 1)) 83 || eqb (byteAt src (t .start + 1)) 115))
+isAs src t = says (bytesOf "AS") (text src (t .start) (t .end))
 
 -- a part of a table's name is a BareWord or a Quoted
 unfoldable pub isPart : Rec → Bool

@@ -24,6 +24,8 @@ use table::record::kind_at;
 use table::record::record_at;
 use table::stretch::child_from;
 use table::stretch::stretch_of;
+use table::text::says;
+use table::text::text_of;
 ghost use mathlib.Core.Path.{_≡_};
 ghost use mathlib.Core.Bool.{cond, _&&_, not};
 ghost use mathlib.Core.List.{[], _∷_};
@@ -119,17 +121,7 @@ fn span_of(r: Rec) -> Range
 fn is_as(source: &[u8], t: Rec) -> bool
     ensures { λ x. ⌜ x ≡ isAs (now (source .entry)) t ⌝ }
 {
-    let start = t.start;
-    let end = t.end;
-    if end < start {
-        return false;
-    }
-    if end - start != 2 {
-        return false;
-    }
-    let a = byte_at(source, start);
-    let s = byte_at(source, start + 1);
-    ((a == b'A') | (a == b'a')) & ((s == b'S') | (s == b's'))
+    says(b"AS", text_of(source, t.start, t.end))
 }
 
 fn is_part(t: Rec) -> bool

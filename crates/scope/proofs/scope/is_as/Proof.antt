@@ -1,6 +1,6 @@
-use Rattle.scope.proofs.ScopeNames.{as-not, as-two}
-use native.Mathlib.Omega.{arith}
+use mathlib.Core.Path.{refl}
 use borrow.Author.Needs.{needs}
+use Rattle.scope.proofs.ScopeNames.{as-said}
 use Rattle.scope.proofs.scope.is_as.Statement.{statement}
 use Rattle.scope.proofs.scope.is_as.Tie as tie
 
@@ -8,9 +8,7 @@ pub is-as-spec : {M : Type 1} → statement M
 is-as-spec =
     tie.close
     (tie.spec
-    (λ c. as-not _ _ (λ e. omega arith))  -- returns
-    (λ c. as-not _ _ (omega arith))  -- returns-2
-    (λ c κs. search needs)  -- byte-at-requires
-    (λ c. search needs)  -- add-byte-at
-    (λ c κs. search needs)  -- byte-at-requires-2
-    (λ c. as-two _ _ (omega arith) (c .before .byte-at .ensures) (c .byte-at2 .ensures)))  -- returns-3
+    (λ c. search needs)  -- slice-aggregate-says
+    (λ c κs. search needs)  -- text-of-requires
+    (λ c κs. search needs)  -- says-requires
+    (λ c. as-said _ _ (c .before .text-of .ensures) refl (c .says .ensures)))  -- returns
