@@ -25,9 +25,9 @@ use Rattle.table.proofs.Places.{stands}
 use Rattle.table.proofs.Sense.{admitted-tidy}
 use Rattle.scope.specs.declared.scope.TableRef.{TableRef}
 use Rattle.scope.specs.Scope.{collection, ownTables, references}
-use Rattle.scope.specs.ScopeQuestions.{referenceRow, tableRefs}
+use Rattle.scope.specs.ScopeQuestions.{referenceBytes, referenceRow, tableRefs}
 use Rattle.scope.specs.Reach.{isRoot, isName, refs, rootIs, reaches, times, Exact}
-use Rattle.scope.specs.AllRoots.{referenceBytes, recordsIn, timesIn, Served, shown, AllRoots}
+use Rattle.scope.specs.AllRoots.{recordsIn, timesIn, Served, shown, AllRoots}
 use Rattle.scope.proofs.Exact.{table-exact, sum-same}
 
 -- ---- a reply with room

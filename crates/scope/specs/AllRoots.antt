@@ -14,14 +14,10 @@ use Rattle.table.specs.Forest.{Forest, nil, token, node}
 use Rattle.table.specs.Rules.{rootRules}
 use Rattle.table.specs.Lists.{listed, lent}
 use Rattle.table.specs.Places.{Place, nodesOf, sum}
-use Rattle.scope.specs.ScopeQuestions.{referenceRow, tableRefs}
+use Rattle.scope.specs.ScopeQuestions.{referenceBytes, referenceRow, tableRefs}
 use Rattle.scope.specs.Reach.{isRoot, isName, rootIs, reaches}
 
 -- ---- all roots' lists
-
--- how many bytes a reference takes
-abbrev pub referenceBytes : ℕ
-referenceBytes = 28
 
 -- the record numbers of the first m references in a buffer
 unfoldable pub recordsIn : ℕ → List ℕ → List ℕ

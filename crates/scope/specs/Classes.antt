@@ -93,6 +93,10 @@ entryOf c start end = cond (eqb (numberOf c) (numberOf Unclassed)) [] (record { 
 abbrev pub row : ClassedToken → List ℕ
 row e = e .start ∷ e .end ∷ e .class ∷ []
 
+-- how many bytes an entry takes
+abbrev pub entryBytes : ℕ
+entryBytes = 12
+
 -- every classed token among siblings and below them, in order, where p is the kind of the siblings' parent
 unfoldable pub classes : List ℕ → ℕ → Forest → List ClassedToken
 classes source p nil = []

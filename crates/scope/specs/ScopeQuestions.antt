@@ -18,6 +18,13 @@ referenceRow e =
 abbrev pub bindingRow : NameBinding → List ℕ
 bindingRow e = e .token .start ∷ e .token .end ∷ e .name .start ∷ e .name .end ∷ e .definition .start ∷ e .definition .end ∷ []
 
+-- how many bytes each takes
+abbrev pub referenceBytes : ℕ
+referenceBytes = 28
+
+abbrev pub bindingBytes : ℕ
+bindingBytes = 24
+
 -- the collection of the first record of the stretch s, whose number is base
 abbrev pub collectionOf : {E : Type 0} → (ℕ → Forest → List E) → ℕ → List ℕ → List E
 collectionOf own base s = collection own (recordAt s base 0) (kids (records base s))

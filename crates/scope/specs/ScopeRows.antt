@@ -20,7 +20,7 @@ use Rattle.scope.specs.declared.scope.Reads.{Reads}
 use Rattle.scope.specs.declared.scope.Reads.the-variants.{Aliases, References}
 use Rattle.scope.specs.Names.{withItem, aliasIn}
 use Rattle.scope.specs.Scope.{gathered, Listing, ownWith, ownColumns, ownTables}
-use Rattle.scope.specs.ScopeQuestions.{referenceRow, bindingRow, collectionAt}
+use Rattle.scope.specs.ScopeQuestions.{referenceBytes, bindingBytes, referenceRow, bindingRow, collectionAt}
 
 -- a row is its own numbers
 abbrev pub same : List ℕ → List ℕ
@@ -49,18 +49,18 @@ rowsAt asked src = collectionAt (ownRows asked src)
 
 -- how many bytes an entry has
 unfoldable pub width : Asked → ℕ
-width WithNames = 24
-width TableAliases = 24
-width ColumnAliases = 24
-width TableRefs = 28
+width WithNames = bindingBytes
+width TableAliases = bindingBytes
+width ColumnAliases = bindingBytes
+width TableRefs = referenceBytes
 
--- how many bytes a node's own part takes at most: two references for each record
+-- how many bytes a table reading takes at most for each record: two references
+abbrev pub readBytes : ℕ
+readBytes = 2 * referenceBytes
+
+-- how many bytes a node's own part takes at most
 abbrev pub mostBytes : ℕ
-mostBytes = 56 * mostRecords
-
--- below which place a byte is that can be written: what `put_entry` asks, far behind every list
-abbrev pub farthest : ℕ
-farthest = 1152921504606846976
+mostBytes = readBytes * mostRecords
 
 -- ---- WITH items or column aliases, by what binds the names
 

@@ -36,11 +36,11 @@ ghost use Rattle.table.specs.Kinds.{isNode, subqueryExpression};
 ghost use Rattle.table.specs.Table.{count, kindAt, recordAt, records};
 ghost use Rattle.table.specs.Forest.{kids};
 ghost use Rattle.table.specs.Rules.{mostRecords, rootRules};
-ghost use Rattle.table.specs.Lists.{listed, lent, Written};
+ghost use Rattle.table.specs.Lists.{farthest, listed, lent, Written};
 ghost use Rattle.scope.specs.Names.{absent, span, byteAt, isAs, isPart, isName, direct, isMark, unquoted, nameOf, binding, withItem, aliasIn};
 ghost use Rattle.scope.specs.Scope.{entry, withItems, selectAliases, fresh, aliased, handOn, listAlias, reading, ownTables};
-ghost use Rattle.scope.specs.ScopeQuestions.{referenceRow, bindingRow, collectionOf, withNames, tableAliases, columnAliases, tableRefs};
-ghost use Rattle.scope.specs.ScopeRows.{same, rowsOf, ownRows, rowsAt, width, mostBytes, farthest, pends, binderKind, isList, binds, names};
+ghost use Rattle.scope.specs.ScopeQuestions.{referenceBytes, bindingBytes, referenceRow, bindingRow, collectionOf, withNames, tableAliases, columnAliases, tableRefs};
+ghost use Rattle.scope.specs.ScopeRows.{same, rowsOf, ownRows, rowsAt, width, readBytes, mostBytes, pends, binderKind, isList, binds, names};
 
 // The start and the end of an absent range.
 const ABSENT: usize = 4294967295;
@@ -237,7 +237,7 @@ fn extract_alias_name(s: &[u8], base: usize, source: &[u8]) -> Bound
 // Writes a binding's entry from byte `at` on, if there is one, and returns where the next entry goes.
 fn put_bound(b: Bound, out: &mut [u8], at: usize) -> usize
     requires { ⌜ at < farthest ⌝ }
-    ensures { λ r. ⌜ Written bindingRow (entry b) (now (out .entry)) at (now (out .exit)) r × (r ≤ at + 24) ⌝ }
+    ensures { λ r. ⌜ Written bindingRow (entry b) (now (out .entry)) at (now (out .exit)) r × (r ≤ at + bindingBytes) ⌝ }
 {
     match b {
         Bound::Unnamed => at,
@@ -247,7 +247,7 @@ fn put_bound(b: Bound, out: &mut [u8], at: usize) -> usize
 
 fn put_binding(b: NameBinding, out: &mut [u8], at: usize) -> usize
     requires { ⌜ at < farthest ⌝ }
-    ensures { λ r. ⌜ Written bindingRow (b ∷ []) (now (out .entry)) at (now (out .exit)) r × (r ≤ at + 24) ⌝ }
+    ensures { λ r. ⌜ Written bindingRow (b ∷ []) (now (out .entry)) at (now (out .exit)) r × (r ≤ at + bindingBytes) ⌝ }
 {
     let row = [
         b.token.start,
@@ -262,7 +262,7 @@ fn put_binding(b: NameBinding, out: &mut [u8], at: usize) -> usize
 
 fn put_reference(t: TableRef, out: &mut [u8], at: usize) -> usize
     requires { ⌜ at < farthest ⌝ }
-    ensures { λ r. ⌜ Written referenceRow (t ∷ []) (now (out .entry)) at (now (out .exit)) r × (r ≤ at + 28) ⌝ }
+    ensures { λ r. ⌜ Written referenceRow (t ∷ []) (now (out .entry)) at (now (out .exit)) r × (r ≤ at + referenceBytes) ⌝ }
 {
     let row = [
         t.record,
@@ -314,9 +314,9 @@ fn collect_bound(
     out: &mut [u8],
     at: usize,
 ) -> usize
-    requires { ⌜ (0 < count (now s)) × (base + count (now s) ≤ mostRecords) × (at + 24 * count (now s) < farthest) ⌝ }
+    requires { ⌜ (0 < count (now s)) × (base + count (now s) ≤ mostRecords) × (at + bindingBytes * count (now s) < farthest) ⌝ }
     ensures { λ r. ⌜ Written bindingRow (names binder (now (source .entry)) (kids (records base (now (s .entry))))) (now (out .entry)) at (now (out .exit)) r
-        × (r ≤ at + 24 * count (now (s .entry))) ⌝ }
+        × (r ≤ at + bindingBytes * count (now (s .entry))) ⌝ }
 {
     let m = count_of(s);
     let mut next = at;
@@ -417,7 +417,7 @@ fn is_pending(p: Pending) -> bool
 // Writes an alias that is set, if aliases are read, and returns where the next entry goes.
 fn put_alias(reads: Reads, p: Pending, b: Bound, out: &mut [u8], at: usize) -> usize
     requires { ⌜ at < farthest ⌝ }
-    ensures { λ r. ⌜ Written same (listAlias (rowsOf reads) p b) (now (out .entry)) at (now (out .exit)) r × (r ≤ at + 28) ⌝ }
+    ensures { λ r. ⌜ Written same (listAlias (rowsOf reads) p b) (now (out .entry)) at (now (out .exit)) r × (r ≤ at + referenceBytes) ⌝ }
 {
     match reads {
         Reads::References => at,
@@ -434,7 +434,7 @@ fn put_alias(reads: Reads, p: Pending, b: Bound, out: &mut [u8], at: usize) -> u
 // Writes the pending reference, if there is one and references are read, and returns where the next entry goes.
 fn hand_on(reads: Reads, p: Pending, out: &mut [u8], at: usize) -> usize
     requires { ⌜ at < farthest ⌝ }
-    ensures { λ r. ⌜ Written same (handOn (rowsOf reads) p) (now (out .entry)) at (now (out .exit)) r × (r ≤ at + 28) ⌝ }
+    ensures { λ r. ⌜ Written same (handOn (rowsOf reads) p) (now (out .entry)) at (now (out .exit)) r × (r ≤ at + referenceBytes) ⌝ }
 {
     match reads {
         Reads::Aliases => at,
@@ -455,9 +455,9 @@ fn collect_table_refs(
     out: &mut [u8],
     at: usize,
 ) -> usize
-    requires { ⌜ (0 < count (now s)) × (base + count (now s) ≤ mostRecords) × (at + 56 * count (now s) < farthest) ⌝ }
+    requires { ⌜ (0 < count (now s)) × (base + count (now s) ≤ mostRecords) × (at + readBytes * count (now s) < farthest) ⌝ }
     ensures { λ r. ⌜ Written same (reading (rowsOf reads) (now (source .entry)) Pending.Nothing (kids (records base (now (s .entry))))) (now (out .entry)) at (now (out .exit)) r
-        × (r + 28 ≤ at + 56 * count (now (s .entry))) ⌝ }
+        × (r + referenceBytes ≤ at + readBytes * count (now (s .entry))) ⌝ }
 {
     let m = count_of(s);
     let mut next = at;
@@ -495,18 +495,18 @@ fn collect_table_refs(
 
 // The items of a WITH clause, the first record of the stretch s.
 fn collect_ctes(s: &[u8], base: usize, source: &[u8], out: &mut [u8], at: usize) -> usize
-    requires { ⌜ (0 < count (now s)) × (base + count (now s) ≤ mostRecords) × (at + 24 * count (now s) < farthest) ⌝ }
+    requires { ⌜ (0 < count (now s)) × (base + count (now s) ≤ mostRecords) × (at + bindingBytes * count (now s) < farthest) ⌝ }
     ensures { λ r. ⌜ Written bindingRow (withItems (now (source .entry)) (kids (records base (now (s .entry))))) (now (out .entry)) at (now (out .exit)) r
-        × (r ≤ at + 24 * count (now (s .entry))) ⌝ }
+        × (r ≤ at + bindingBytes * count (now (s .entry))) ⌝ }
 {
     collect_bound(Binder::Item, s, base, source, out, at)
 }
 
 // The column aliases of a SELECT clause, the first record of the stretch s.
 fn collect_column_aliases(s: &[u8], base: usize, source: &[u8], out: &mut [u8], at: usize) -> usize
-    requires { ⌜ (0 < count (now s)) × (base + count (now s) ≤ mostRecords) × (at + 24 * count (now s) < farthest) ⌝ }
+    requires { ⌜ (0 < count (now s)) × (base + count (now s) ≤ mostRecords) × (at + bindingBytes * count (now s) < farthest) ⌝ }
     ensures { λ r. ⌜ Written bindingRow (selectAliases (now (source .entry)) (kids (records base (now (s .entry))))) (now (out .entry)) at (now (out .exit)) r
-        × (r ≤ at + 24 * count (now (s .entry))) ⌝ }
+        × (r ≤ at + bindingBytes * count (now (s .entry))) ⌝ }
 {
     collect_bound(Binder::Alias, s, base, source, out, at)
 }
@@ -520,9 +520,9 @@ fn own_tables(
     out: &mut [u8],
     at: usize,
 ) -> usize
-    requires { ⌜ (0 < count (now s)) × (base + count (now s) ≤ mostRecords) × (at + 56 * count (now s) < farthest) ⌝ }
+    requires { ⌜ (0 < count (now s)) × (base + count (now s) ≤ mostRecords) × (at + readBytes * count (now s) < farthest) ⌝ }
     ensures { λ r. ⌜ Written same (ownTables (rowsOf reads) (now (source .entry)) (kindAt (now (s .entry)) 0) (kids (records base (now (s .entry))))) (now (out .entry)) at (now (out .exit)) r
-        × (r ≤ at + 56 * count (now (s .entry))) ⌝ }
+        × (r ≤ at + readBytes * count (now (s .entry))) ⌝ }
 {
     let kind = kind_at(s, 0);
     if (kind == FROM_CLAUSE) | (kind == JOIN_CLAUSE) {
@@ -534,9 +534,9 @@ fn own_tables(
 
 // The own part of a node, the first record of the stretch s, in the list that is asked for.
 fn own_part(asked: Asked, s: &[u8], base: usize, source: &[u8], out: &mut [u8], at: usize) -> usize
-    requires { ⌜ (0 < count (now s)) × (base + count (now s) ≤ mostRecords) × (at + 56 * count (now s) < farthest) ⌝ }
+    requires { ⌜ (0 < count (now s)) × (base + count (now s) ≤ mostRecords) × (at + readBytes * count (now s) < farthest) ⌝ }
     ensures { λ r. ⌜ Written same (ownRows asked (now (source .entry)) (kindAt (now (s .entry)) 0) (kids (records base (now (s .entry))))) (now (out .entry)) at (now (out .exit)) r
-        × (r ≤ at + 56 * count (now (s .entry))) ⌝ }
+        × (r ≤ at + readBytes * count (now (s .entry))) ⌝ }
 {
     let kind = kind_at(s, 0);
     match asked {

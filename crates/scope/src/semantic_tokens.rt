@@ -33,9 +33,9 @@ ghost use lib.ListN.{length};
 ghost use Rattle.table.specs.Table.{count, records, kindAt, startAt, endAt};
 ghost use Rattle.table.specs.Forest.{kids, stretchEnd};
 ghost use Rattle.table.specs.Rules.{mostRecords, rules};
-ghost use Rattle.table.specs.Lists.{listBytes, Written, listed, lent};
+ghost use Rattle.table.specs.Lists.{farthest, listBytes, Written, listed, lent};
 ghost use Rattle.scope.specs.KeywordTable.{Lent};
-ghost use Rattle.scope.specs.Classes.{byParent, judged, bareword, classOf, numberOf, row, entryOf, classes, classesOf};
+ghost use Rattle.scope.specs.Classes.{byParent, judged, bareword, classOf, numberOf, row, entryBytes, entryOf, classes, classesOf};
 
 // The classes by document 01's numbers, 0 to 9, and none.
 pub enum TokenClass {
@@ -161,8 +161,8 @@ fn classify_token(
 
 // Writes the entry of a token, if it has a class, to byte `at` and returns the byte of the next entry.
 fn put_class(out: &mut [u8], at: usize, c: TokenClass, start: usize, end: usize) -> usize
-    requires { ⌜ at < 1152921504606846976 ⌝ }
-    ensures { λ r. ⌜ Written row (entryOf c start «end») (now (out .entry)) at (now (out .exit)) r × (r ≤ at + 12) ⌝ }
+    requires { ⌜ at < farthest ⌝ }
+    ensures { λ r. ⌜ Written row (entryOf c start «end») (now (out .entry)) at (now (out .exit)) r × (r ≤ at + entryBytes) ⌝ }
 {
     let class = number_of(c);
     if class == UNCLASSED {
@@ -180,9 +180,9 @@ fn collect_tokens(
     out: &mut [u8],
     at: usize,
 ) -> Walked
-    requires { ⌜ Lent (now words) (now starts) × (0 < count (now s)) × (at + 12 * count (now s) < 1152921504606846976) ⌝ }
+    requires { ⌜ Lent (now words) (now starts) × (0 < count (now s)) × (at + entryBytes * count (now s) < farthest) ⌝ }
     ensures { λ r. ⌜ ((base : ℕ) → Written row (classes (now (source .entry)) (kindAt (now (s .entry)) 0) (kids (records base (now (s .entry))))) (now (out .entry)) at (now (out .exit)) (r .at))
-        × (r .used ≡ stretchEnd (now (s .entry)) 0) × (r .used ≤ count (now (s .entry))) × (1 ≤ r .used) × (r .at ≤ at + 12 * r .used) ⌝ }
+        × (r .used ≡ stretchEnd (now (s .entry)) 0) × (r .used ≤ count (now (s .entry))) × (1 ≤ r .used) × (r .at ≤ at + entryBytes * r .used) ⌝ }
 {
     let m = count_of(s);
     let parent = kind_at(s, 0);
@@ -212,7 +212,7 @@ fn collect_tokens(
 // How many bytes the list takes.
 fn class_bytes(words: &[u8], starts: &Starts, table: &[u8], source: &[u8]) -> usize
     requires { ⌜ Lent (now words) (now starts) × (0 < count (now table)) × (count (now table) ≤ mostRecords) ⌝ }
-    ensures { λ r. ⌜ (r ≡ length (listBytes row (classesOf (now (source .entry)) (now (table .entry))))) × (r ≤ 12 * count (now (table .entry))) ⌝ }
+    ensures { λ r. ⌜ (r ≡ length (listBytes row (classesOf (now (source .entry)) (now (table .entry))))) × (r ≤ entryBytes * count (now (table .entry))) ⌝ }
 {
     let mut none = [0u8; 0];
     let w = collect_tokens(words, starts, table, source, &mut none, 0);

@@ -18,6 +18,10 @@ use Rattle.table.specs.Rules.{Rule, rule, first}
 abbrev pub numberBytes : ℕ
 numberBytes = 4
 
+-- below which place a byte is that can be written: far behind every list, so that no place wraps
+abbrev pub farthest : ℕ
+farthest = 1152921504606846976
+
 -- the four little-endian bytes of v
 abbrev pub le4 : ℕ → List ℕ
 le4 v = v % 256 ∷ v / 256 % 256 ∷ v / 65536 % 256 ∷ v / 16777216 % 256 ∷ []

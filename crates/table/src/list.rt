@@ -3,7 +3,7 @@ ghost use mathlib.Core.Path.{_≡_};
 ghost use Prim.Native.Nat.{_+_, _*_, _≤_, _<_};
 ghost use lib.ListN.{length};
 ghost use lib.Seq.{sets};
-ghost use Rattle.table.specs.Lists.{numberBytes, le4, put};
+ghost use Rattle.table.specs.Lists.{numberBytes, farthest, le4, put};
 
 // How many bytes a number of an entry takes.
 pub const NUMBER_BYTES: usize = 4;
@@ -28,7 +28,7 @@ fn put_number(out: &mut [u8], at: usize, v: usize)
 
 // Writes an entry's numbers from byte `at` on, if out has room for all of them there, and returns where the next entry goes.
 pub fn put_entry(out: &mut [u8], at: usize, entry: &[usize]) -> usize
-    requires { ⌜ (at < 1152921504606846976) × (length (now entry) < 1024) ⌝ }
+    requires { ⌜ (at < farthest) × (length (now entry) < 1024) ⌝ }
     ensures { λ r. ⌜ (now (out .exit) ≡ put (now (out .entry)) at (now (entry .entry)))
         × (r ≡ at + numberBytes * length (now (entry .entry))) ⌝ }
 {
