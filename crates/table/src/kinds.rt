@@ -26,6 +26,12 @@ pub const JOIN_CLAUSE: usize = 17;
 
 pub const PREWHERE_CLAUSE: usize = 18;
 
+pub const WHERE_CLAUSE: usize = 19;
+
+pub const GROUP_BY_CLAUSE: usize = 20;
+
+pub const HAVING_CLAUSE: usize = 21;
+
 pub const ORDER_BY_CLAUSE: usize = 22;
 
 pub const SETTINGS_CLAUSE: usize = 23;

@@ -1,0 +1,2 @@
+// The answers at a cursor.
+pub mod cursor_context;
