@@ -5,12 +5,18 @@ use mathlib.Core.Path.{_≡_, refl, sym}
 use mathlib.Core.Bool.{Bool, true, false, cond}
 use native.Mathlib.Omega.{arith}
 use lib.Dec.{eqb}
+use mathlib.Core.List.{List, [], _∷_}
+use Rattle.table.specs.declared.record.Rec.{Rec}
+use Rattle.table.specs.Table.{records}
+use Rattle.table.specs.Descent.{pathOf, along}
+use Rattle.table.proofs.Descents.{Descent, answer}
+use Rattle.cursor.specs.Path.{holds, pathAt}
 use Rattle.table.specs.Kinds.{subqueryExpression}
 use Rattle.cursor.specs.declared.cursor_context.Next.{Next}
-use Rattle.cursor.specs.declared.cursor_context.Next.the-variants.{Above}
+use Rattle.cursor.specs.declared.cursor_context.Next.the-variants.{Deepest, Above}
 use Rattle.cursor.specs.declared.cursor_context.Gathered.{Gathered}
 use Rattle.cursor.specs.Trailing.{isStatement}
-use Rattle.cursor.specs.Steps.{decides, settled, stepped, Within}
+use Rattle.cursor.specs.Steps.{decides, settled, stepped, nothing, gathered, Within}
 
 less : (n a b : ℕ) (c : Bool) → a < n → b < n → cond c a b < n
 less n a b true p q = p
@@ -41,3 +47,15 @@ settles g r x e = (e, λ n w. rw e (settled-within g x n w))
 
 pub steps : (g r : Gathered) (k i : ℕ) → r ≡ stepped g k i → (r ≡ stepped g k i) × ((n : ℕ) → Within n g → i < n → Within n r)
 steps g r k i e = (e, λ n w h. rw e (stepped-within g k i n w h))
+
+-- ---- the descent
+
+abbrev pub way : ℕ → Descent Gathered Gathered
+way o = record { takes = holds o; step = λ g r. stepped g (r .kind) (r .index); done = λ g f. settled g Deepest }
+
+pub way-gathered : (o : ℕ) (t : List ℕ) → answer (way o) nothing (records 0 t) ≡ gathered (pathAt t o)
+unfolding gathered
+way-gathered o t = refl
+
+pub nothing-within : (n : ℕ) → 0 < n → Within n nothing
+nothing-within n h = record { node = h; ruled = h; statement = omega arith; query = omega arith }

@@ -2,6 +2,8 @@
 ghost use mathlib.Core.Path.{_≡_};
 ghost use Rattle.table.specs.Kinds.{isNode, isToken};
 
+pub const OTHER_NODE: usize = 0;
+
 pub const FILE: usize = 1;
 
 pub const QUERY_LIST: usize = 2;
