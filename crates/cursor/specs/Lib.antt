@@ -5,3 +5,4 @@ pub mod Trailing
 pub mod PathRules
 pub mod Context
 pub mod Steps
+pub mod CursorExamples
