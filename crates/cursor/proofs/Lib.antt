@@ -6,3 +6,4 @@ pub mod Clauses
 pub mod Columns
 pub mod Rules
 pub mod Replies
+pub mod Coded

@@ -1,6 +1,6 @@
 -- Document 01, Cursor: the context at an offset, "Last", and the numbers of the contexts.
 -- Definitions only.
-use Prim.Native.Nat.{ℕ}
+use Prim.Native.Nat.{ℕ, _<_}
 use mathlib.Core.Bool.{Bool, true, cond, _&&_}
 use mathlib.Core.List.{List}
 use lib.Dec.{eqb}
@@ -87,3 +87,22 @@ coded CodecName = code 9 Nameless 0
 coded (FunctionArgument name index) = code 10 name index
 coded StatementStart = code 11 Nameless 0
 coded Unknown = code 12 Nameless 0
+
+-- a function's name, where there is one, starts before 4294967295: it is then told apart from none
+unfoldable pub Starts : Name → Type 0
+Starts Nameless = Unit
+Starts (Named r) = r .start < 4294967295
+
+unfoldable pub Ranged : CursorContext → Type 0
+Ranged SelectExpression = Unit
+Ranged (TableReference prefix) = Unit
+Ranged (ColumnOfTable qualifier) = Unit
+Ranged Expression = Unit
+Ranged SettingName = Unit
+Ranged EngineName = Unit
+Ranged FormatName = Unit
+Ranged DataType = Unit
+Ranged CodecName = Unit
+Ranged (FunctionArgument name index) = Starts name
+Ranged StatementStart = Unit
+Ranged Unknown = Unit
