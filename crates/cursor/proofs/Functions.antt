@@ -16,7 +16,7 @@ use Rattle.table.specs.Forest.{Forest, nil, token, node, kids, children, Child}
 use Rattle.table.specs.Scan.{Reading, ofTokens}
 use Rattle.table.specs.Descent.{along}
 use Rattle.table.proofs.Laws.{node-or-token, records-tail}
-use Rattle.table.proofs.Walks.{Walk}
+use Rattle.table.proofs.Walks.{walk-at-token, walk-at-node, walk-on}
 use Rattle.table.proofs.Scans.{tokens-none, tokens-start}
 use Rattle.cursor.specs.declared.cursor_context.Range.{Range}
 use Rattle.cursor.specs.declared.cursor_context.Name.{Name}
@@ -27,7 +27,7 @@ use Rattle.cursor.specs.declared.cursor_context.Arguments.{Arguments}
 use Rattle.cursor.specs.LastToken.{named}
 use Rattle.cursor.specs.Function.{bareWordIn, orName, functionName, opens, argued, arguments}
 use Rattle.cursor.specs.Steps.{nameAt, naming, namingOf, namingAt}
-use Rattle.cursor.proofs.Walking.{walk-at-token, walk-at-node, walk-on, Walks, Sweeps, sweeps-end, sweeps-stop, sweeps-over, sweeps-token, sweeps-node}
+use Rattle.cursor.proofs.Walking.{Walks, Sweeps, sweeps-end, sweeps-stop, sweeps-over, sweeps-token, sweeps-node}
 
 -- ---- the first direct BareWord
 

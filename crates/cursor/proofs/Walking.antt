@@ -8,32 +8,17 @@ use native.Mathlib.Nat.{zero-add}
 use lib.ListN.{drop}
 use Rattle.table.specs.declared.record.Rec.{Rec}
 use Rattle.table.specs.Kinds.{lastNode}
-use Rattle.table.specs.Table.{recordBytes, count, kindAt, depthAt, recordAt, from, records}
-use Rattle.table.specs.Forest.{Forest, nil, token, node, kids, children, Child}
+use Rattle.table.specs.Table.{recordBytes, count, kindAt, depthAt, recordAt, records}
+use Rattle.table.specs.Forest.{Forest, nil, kids, Child}
 use Rattle.table.specs.Scan.{Reading}
-use Rattle.table.proofs.Laws.{records-tail, kids-tail, siblings-token, siblings-after}
-use Rattle.table.proofs.Walks.{Walk, walk-none, walk-start, walk-end, walk-into}
+use Rattle.table.proofs.Laws.{records-tail}
+use Rattle.table.proofs.Walks.{Walk, walk-none, walk-start, walk-end}
 use Rattle.table.proofs.Scans.{Sweep, sweep-end, sweep-stop, sweep-over, sweep-token, sweep-into, sweep-past}
 use Rattle.cursor.specs.Path.{inside}
 
 -- the children of record i, read in the rest of the table from it on
 pub rest-inside : (t : List ℕ) (i : ℕ) → kids (records i (drop (recordBytes * i) t)) ≡ inside t i
 rest-inside t i = ap kids (rw zero-add at (records-tail t 0 i))
-
--- ---- a walk over children, at record i
-
-module _ {A : Type 0} {s : List ℕ} {base i : ℕ} {rest : Forest → A} {«all» : A} (w : Walk s base i rest «all») (h : i < count s) where
-  pub walk-at-token : lastNode < kindAt s i → rest (token (recordAt s base i) (children s base (i + 1))) ≡ «all»
-  unfolding children
-  walk-at-token g = rw (siblings-token s base (depthAt s 0 + 1) i h (w .child h) g) at (w .left)
-
-  pub walk-at-node : kindAt s i ≤ lastNode → rest (node (recordAt s base i) (kids (from s base i)) (children s base (i + 1))) ≡ «all»
-  unfolding children
-  walk-at-node g =
-      rw (← records-tail s base i, kids-tail s base (depthAt s i) i h refl, ← siblings-after s base (depthAt s 0 + 1) i h (w .child h)) (walk-into w h g refl)
-
-  pub walk-on : {rest′ : Forest → A} {r : ℕ} → rest′ (children s base (i + 1)) ≡ «all» → Child s (i + 1) r → Walk s base r rest′ «all»
-  walk-on e c = record { child = c .depth; left = rw (← c .same base) e }
 
 -- however the records are numbered
 pub record Walks {A : Type 0} (s : List ℕ) (i : ℕ) (rest : Forest → A) (answer : Forest → A) : Type 0 where

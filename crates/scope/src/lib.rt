@@ -1,2 +1,3 @@
 // The answers that need no cursor.
 pub mod keywords;
+pub mod scope;

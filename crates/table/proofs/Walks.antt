@@ -7,15 +7,17 @@
 --     walk-over                 after a node of whose stretch nothing is wanted: the search goes on right behind its record
 --     walk-into                 at a node whose stretch is p, where the answer comes from inside it
 --     walk-from                 before the first turn, where the walk is itself a turn of a descent
+--     walk-at-token, walk-at-node    what is left at record i, where it is a token; where it is a node, with its children read from it on
+--     walk-on                        after record i, by what is left behind it
 -- Assumes nothing.
 use mathlib.Core.Path.{_≡_, refl, sym, ap, _∙_}
 use mathlib.Core.List.{List}
 use Prim.Native.Nat.{ℕ, _+_, _≤_, _<_}
 use Rattle.table.specs.declared.record.Rec.{Rec}
 use Rattle.table.specs.Kinds.{isNode, lastNode}
-use Rattle.table.specs.Table.{recordBytes, count, kindAt, depthAt, recordAt, records, part}
+use Rattle.table.specs.Table.{recordBytes, count, kindAt, depthAt, recordAt, from, records, part}
 use Rattle.table.specs.Forest.{Forest, nil, token, node, kids, stretchEnd, children, Child}
-use Rattle.table.proofs.Laws.{kids-none, kids-first, siblings-end, siblings-token, siblings-node, siblings-after}
+use Rattle.table.proofs.Laws.{records-tail, kids-tail, kids-none, kids-first, siblings-end, siblings-token, siblings-node, siblings-after}
 
 -- at record i, which is a child or the count
 pub record Walk {A : Type 0} (s : List ℕ) (base i : ℕ) (rest : Forest → A) («all» : A) : Type 0 where
@@ -59,3 +61,15 @@ module _ {A : Type 0} {s : List ℕ} {base i : ℕ} {rest : Forest → A} {«all
     unfolding children
     walk-over g c e =
         record { child = c .depth; left = rw (← c .same base, ← siblings-after s base (depthAt s 0 + 1) i h (w .child h)) (sym (e _ _) ∙ walk-into g refl) }
+
+    pub walk-at-token : lastNode < kindAt s i → rest (token (recordAt s base i) (children s base (i + 1))) ≡ «all»
+    unfolding children
+    walk-at-token g = rw (siblings-token s base (depthAt s 0 + 1) i h (w .child h) g) at (w .left)
+
+    pub walk-at-node : kindAt s i ≤ lastNode → rest (node (recordAt s base i) (kids (from s base i)) (children s base (i + 1))) ≡ «all»
+    unfolding children
+    walk-at-node g =
+        rw (← records-tail s base i, kids-tail s base (depthAt s i) i h refl, ← siblings-after s base (depthAt s 0 + 1) i h (w .child h)) (walk-into g refl)
+
+    pub walk-on : {rest′ : Forest → A} {r : ℕ} → rest′ (children s base (i + 1)) ≡ «all» → Child s (i + 1) r → Walk s base r rest′ «all»
+    walk-on e c = record { child = c .depth; left = rw (← c .same base) e }
