@@ -7,3 +7,4 @@ pub mod Columns
 pub mod Rules
 pub mod Replies
 pub mod Coded
+pub mod Roots

@@ -6,3 +6,4 @@ pub mod PathRules
 pub mod Context
 pub mod Steps
 pub mod CursorExamples
+pub mod Root

@@ -716,7 +716,7 @@ fn starts_after(source: &[u8], last: Name) -> bool
 }
 
 // The way from record 0, which is on it whatever its span, down to the offset.
-fn find_node_path(table: &[u8], offset: usize) -> Gathered
+pub fn find_node_path(table: &[u8], offset: usize) -> Gathered
     requires { ⌜ (0 < count (now table)) × (count (now table) < 4294967296) ⌝ }
     ensures { λ r. ⌜ (r ≡ gathered (pathAt (now (table .entry)) offset)) × Within (count (now (table .entry))) r ⌝ }
 {
