@@ -8,3 +8,4 @@ pub mod Rules
 pub mod Replies
 pub mod Coded
 pub mod Roots
+pub mod Ranges
