@@ -9,3 +9,4 @@ pub mod Replies
 pub mod Coded
 pub mod Roots
 pub mod Ranges
+pub mod Early
