@@ -1,14 +1,17 @@
-// The names that a query offers: its WITH names, table aliases, column aliases and table references.
+// The names that a query offers: its WITH names, table aliases, column aliases and table references; and the statement that encloses an offset.
 use table::check::Verdict;
+use table::check::check;
 use table::check::check_root;
 use table::kinds::BARE_WORD;
 use table::kinds::COLUMN_ALIAS;
 use table::kinds::COLUMN_LIST;
+use table::kinds::DESCRIBE_STATEMENT;
 use table::kinds::EXPRESSION_LIST;
 use table::kinds::FROM_CLAUSE;
 use table::kinds::JOIN_CLAUSE;
 use table::kinds::QUOTED_IDENTIFIER;
 use table::kinds::SELECT_CLAUSE;
+use table::kinds::SELECT_STATEMENT;
 use table::kinds::SUBQUERY_EXPRESSION;
 use table::kinds::TABLE_ALIAS;
 use table::kinds::TABLE_EXPRESSION;
@@ -20,9 +23,12 @@ use table::list::Listed;
 use table::list::put_entry;
 use table::record::Rec;
 use table::record::count_of;
+use table::record::end_at;
 use table::record::kind_at;
 use table::record::record_at;
+use table::record::start_at;
 use table::stretch::child_from;
+use table::stretch::rest_from;
 use table::stretch::stretch_of;
 use table::text::says;
 use table::text::text_of;
@@ -33,14 +39,15 @@ ghost use Prim.Native.Nat.{_+_, _*_, _/_, _≤_, _<_};
 ghost use lib.ListN.{length};
 ghost use lib.Dec.{eqb};
 ghost use Rattle.table.specs.Kinds.{isNode, subqueryExpression};
-ghost use Rattle.table.specs.Table.{count, kindAt, recordAt, records};
+ghost use Rattle.table.specs.Table.{count, kindAt, recordAt, records, startAt, endAt};
 ghost use Rattle.table.specs.Forest.{kids};
-ghost use Rattle.table.specs.Rules.{mostRecords, rootRules};
+ghost use Rattle.table.specs.Rules.{mostRecords, rootRules, verdict};
 ghost use Rattle.table.specs.Lists.{farthest, listed, lent, Written};
 ghost use Rattle.scope.specs.Names.{absent, span, byteAt, isAs, isPart, isName, direct, isMark, unquoted, nameOf, binding, withItem, aliasIn};
 ghost use Rattle.scope.specs.Scope.{entry, withItems, selectAliases, fresh, aliased, handOn, listAlias, reading, ownTables};
 ghost use Rattle.scope.specs.ScopeQuestions.{referenceBytes, bindingBytes, referenceRow, bindingRow, collectionOf, withNames, tableAliases, columnAliases, tableRefs};
 ghost use Rattle.scope.specs.ScopeRows.{same, rowsOf, ownRows, rowsAt, width, readBytes, mostBytes, pends, binderKind, isList, binds, names};
+ghost use Rattle.scope.specs.Statement.{spans, itself, orElse, firstFind, enclosingAt, told, statementReply};
 
 // The start and the end of an absent range.
 const ABSENT: usize = 4294967295;
@@ -661,4 +668,108 @@ pub fn table_refs(table: &[u8], source: &[u8], root: usize, out: &mut [u8]) -> L
         × (now (out .exit) ≡ lent (rootRules (now (table .entry)) (length (now (source .entry))) root) referenceRow (tableRefs (now (source .entry)) (now (table .entry)) root) (now (out .entry))) ⌝ }
 {
     list_of(Asked::TableRefs, table, source, root, out)
+}
+
+// The record that a search finds.
+pub enum Enclosing {
+    Outside,
+    Record(u32),
+}
+
+// The reply to the question for the enclosing statement.
+pub enum StatementReply {
+    Statement(u32),
+    NoStatement,
+    // the refusal's number and its detail
+    Refused(u32, u32),
+}
+
+fn spans(start: usize, end: usize, offset: usize) -> bool
+    ensures { λ r. ⌜ r ≡ spans offset start end ⌝ }
+{
+    (start <= offset) & (offset <= end)
+}
+
+// Record i is a node that holds the offset.
+fn is_holder(s: &[u8], i: usize, offset: usize) -> bool
+    requires { ⌜ i < count (now s) ⌝ }
+    ensures { λ r. ⌜ r ≡ (isNode (kindAt (now (s .entry)) i) && spans offset (startAt (now (s .entry)) i) (endAt (now (s .entry)) i)) ⌝ }
+{
+    let kind = kind_at(s, i);
+    let start = start_at(s, i);
+    let end = end_at(s, i);
+    is_node(kind) & spans(start, end, offset)
+}
+
+// What is found below a node, else the node itself if it is a statement.
+fn else_itself(inner: Enclosing, kind: usize, i: usize) -> Enclosing
+    requires { ⌜ i < 4294967296 ⌝ }
+    ensures { λ r. ⌜ r ≡ orElse inner (itself kind i) ⌝ }
+{
+    match inner {
+        Enclosing::Record(n) => Enclosing::Record(n),
+        Enclosing::Outside => {
+            if (SELECT_STATEMENT <= kind) & (kind <= DESCRIBE_STATEMENT) {
+                Enclosing::Record(i as u32)
+            } else {
+                Enclosing::Outside
+            }
+        }
+    }
+}
+
+// The first find among the children of the first record of the stretch s, whose number is base.
+fn first_find(s: &[u8], base: usize, offset: usize) -> Enclosing
+    requires { ⌜ base + count (now s) < 4294967296 ⌝ }
+    ensures { λ r. ⌜ r ≡ firstFind offset (kids (records base (now (s .entry)))) ⌝ }
+{
+    let m = count_of(s);
+    if m == 0 {
+        return Enclosing::Outside;
+    }
+    let mut i = child_from(s, 1);
+    while i < m {
+        if is_holder(s, i, offset) {
+            let inner = first_find(rest_from(s, i), base + i, offset);
+            match else_itself(inner, kind_at(s, i), base + i) {
+                Enclosing::Record(n) => return Enclosing::Record(n),
+                Enclosing::Outside => i = child_from(s, i + 1),
+            }
+        } else {
+            i = child_from(s, i + 1);
+        }
+    }
+    Enclosing::Outside
+}
+
+// The search from record 0.
+pub fn find_enclosing_statement(table: &[u8], offset: usize) -> Enclosing
+    requires { ⌜ (0 < count (now table)) × (count (now table) < 4294967296) ⌝ }
+    ensures { λ r. ⌜ r ≡ enclosingAt (now (table .entry)) offset ⌝ }
+{
+    let start = start_at(table, 0);
+    let end = end_at(table, 0);
+    if spans(start, end, offset) {
+        return else_itself(first_find(table, 0, offset), kind_at(table, 0), 0);
+    }
+    Enclosing::Outside
+}
+
+fn told(e: Enclosing) -> StatementReply
+    ensures { λ r. ⌜ r ≡ told e ⌝ }
+{
+    match e {
+        Enclosing::Outside => StatementReply::NoStatement,
+        Enclosing::Record(n) => StatementReply::Statement(n),
+    }
+}
+
+// The statement that encloses the offset, which may be none.
+pub fn enclosing_statement(table: &[u8], source: &[u8], offset: usize) -> StatementReply
+    ensures { λ r. ⌜ r ≡ statementReply (verdict (now (table .entry)) (length (now (source .entry))) 0) (enclosingAt (now (table .entry)) offset) ⌝ }
+{
+    match check(table, source) {
+        Verdict::Refused(k, d) => StatementReply::Refused(k, d),
+        Verdict::Admitted => told(find_enclosing_statement(table, offset)),
+    }
 }

@@ -9,6 +9,8 @@
 --     walk-over                 after a node of whose stretch nothing is wanted: the search goes on right behind its record
 --     walk-into                 at a node whose stretch is p, where the answer comes from inside it
 --     walk-from                 before the first turn, where the walk is itself a turn of a descent
+--     walk-at-node                   what is left at record i, where it is a node, with its children read from it on
+--     walk-on                        after record i, by what is left behind it
 -- Assumes nothing.
 use mathlib.Core.Path.{_≡_, refl, sym, ap, _∙_}
 use mathlib.Core.Logic.{⊎-elim}
@@ -16,9 +18,9 @@ use mathlib.Core.List.{List}
 use Prim.Native.Nat.{ℕ, _+_, _≤_, _<_}
 use Rattle.table.specs.declared.record.Rec.{Rec}
 use Rattle.table.specs.Kinds.{isNode, lastNode}
-use Rattle.table.specs.Table.{recordBytes, count, kindAt, depthAt, recordAt, records, part}
+use Rattle.table.specs.Table.{recordBytes, count, kindAt, depthAt, recordAt, from, records, part}
 use Rattle.table.specs.Forest.{Forest, nil, token, node, kids, stretchEnd, children, Child}
-use Rattle.table.proofs.Laws.{node-or-token, kids-none, kids-first, siblings-end, siblings-token, siblings-node, siblings-after}
+use Rattle.table.proofs.Laws.{node-or-token, records-tail, kids-tail, kids-none, kids-first, siblings-end, siblings-token, siblings-node, siblings-after}
 
 -- at record i, which is a child or the count
 pub record Walk {A : Type 0} (s : List ℕ) (base i : ℕ) (rest : Forest → A) («all» : A) : Type 0 where
@@ -71,3 +73,11 @@ module _ {A : Type 0} {s : List ℕ} {base i : ℕ} {rest : Forest → A} {«all
         → (lastNode < kindAt s i → (f : Forest) → rest (token (recordAt s base i) f) ≡ rest′ f)
         → (kindAt s i ≤ lastNode → (b f : Forest) → rest (node (recordAt s base i) b f) ≡ rest′ f) → Walk s base r rest′ «all»
     walk-next c e n = ⊎-elim (λ g. walk-over g c (n g)) (λ g. walk-token g c (e g)) (node-or-token (kindAt s i))
+
+    pub walk-at-node : kindAt s i ≤ lastNode → rest (node (recordAt s base i) (kids (from s base i)) (children s base (i + 1))) ≡ «all»
+    unfolding children
+    walk-at-node g =
+        rw (← records-tail s base i, kids-tail s base (depthAt s i) i h refl, ← siblings-after s base (depthAt s 0 + 1) i h (w .child h)) (walk-into g refl)
+
+    pub walk-on : {rest′ : Forest → A} {r : ℕ} → rest′ (children s base (i + 1)) ≡ «all» → Child s (i + 1) r → Walk s base r rest′ «all»
+    walk-on e c = record { child = c .depth; left = rw (← c .same base) e }

@@ -2,6 +2,8 @@
 ghost use mathlib.Core.Path.{_≡_};
 ghost use Rattle.table.specs.Kinds.{isNode, isToken};
 
+pub const OTHER_NODE: usize = 0;
+
 pub const FILE: usize = 1;
 
 pub const QUERY_LIST: usize = 2;
@@ -25,6 +27,12 @@ pub const FROM_CLAUSE: usize = 16;
 pub const JOIN_CLAUSE: usize = 17;
 
 pub const PREWHERE_CLAUSE: usize = 18;
+
+pub const WHERE_CLAUSE: usize = 19;
+
+pub const GROUP_BY_CLAUSE: usize = 20;
+
+pub const HAVING_CLAUSE: usize = 21;
 
 pub const ORDER_BY_CLAUSE: usize = 22;
 

@@ -1,0 +1,12 @@
+pub mod Walking
+pub mod Steps
+pub mod Tokens
+pub mod Functions
+pub mod Clauses
+pub mod Columns
+pub mod Rules
+pub mod Replies
+pub mod Coded
+pub mod Roots
+pub mod Ranges
+pub mod Early

@@ -1,0 +1,53 @@
+-- The rules in their order, and the reply.
+-- Assumes nothing.
+use Prim.Native.Nat.{ℕ, _*_, _<_}
+use mathlib.Core.Path.{_≡_, refl, sym, ap, _∙_}
+use mathlib.Core.Bool.{Bool}
+use mathlib.Core.List.{List}
+use native.Mathlib.Omega.{arith}
+use borrow.Author.Tests.{eq-eqb, ne-eqb}
+use lib.ListN.{drop}
+use Rattle.table.specs.declared.check.Verdict.{Verdict}
+use Rattle.table.specs.declared.check.Verdict.the-variants.{Admitted, Refused}
+use Rattle.table.specs.Kinds.{otherNode}
+use Rattle.table.specs.Table.{recordBytes, count, records}
+use Rattle.table.specs.Forest.{kids}
+use Rattle.table.specs.Rules.{verdict}
+use Rattle.table.proofs.Sense.{admitted-tidy}
+use Rattle.cursor.specs.declared.cursor_context.Gathered.{Gathered}
+use Rattle.cursor.specs.declared.cursor_context.CursorContext.{CursorContext}
+use Rattle.cursor.specs.declared.cursor_context.Answer.{Answer}
+use Rattle.cursor.specs.declared.cursor_context.Answer.the-variants.{GoOn, Given}
+use Rattle.cursor.specs.declared.cursor_context.ContextReply.{ContextReply}
+use Rattle.cursor.specs.declared.cursor_context.ContextReply.the-variants.{Context, Refused as Denied}
+use Rattle.cursor.specs.Path.{inside}
+use Rattle.cursor.specs.Context.{lastRule, givenOr, contextReply}
+use Rattle.cursor.specs.Steps.{trailingFrom, givenBy, ruledBy, analyzed}
+use Rattle.cursor.proofs.Walking.{rest-inside}
+
+module _ (src t : List ℕ) (o : ℕ) (g : Gathered) {a : Answer} (e : a ≡ trailingFrom t o (g .statement)) where
+  pub first-given : {x : CursorContext} → a ≡ Given x → x ≡ analyzed src t o g
+  unfolding analyzed givenOr
+  first-given q = rw (← e, q)
+
+  pub path-given : {x : CursorContext} {p : List ℕ} → a ≡ GoOn → (g .ruling ≡ otherNode → ⊥) → p ≡ drop (recordBytes * (g .ruled)) t
+      → ((base : ℕ) → x ≡ givenBy src o (g .constrained) (g .ruling) (kids (records base p))) → x ≡ analyzed src t o g
+  unfolding analyzed givenOr ruledBy
+  path-given q n d s = rw (← e, q, ne-eqb _ _ n) (s (g .ruled) ∙ rw (d, rest-inside t (g .ruled)))
+
+  pub last-given : {x : CursorContext} → a ≡ GoOn → g .ruling ≡ otherNode → x ≡ lastRule src t o → x ≡ analyzed src t o g
+  unfolding analyzed givenOr ruledBy
+  last-given q n s = rw (← e, q, eq-eqb _ _ n) s
+
+module _ {v w : Verdict} (c : CursorContext) (e : v ≡ w) where
+  pub reply-refused : {k d : ℕ} → v ≡ Refused k d → Denied k d ≡ contextReply w c
+  unfolding contextReply
+  reply-refused q = rw (← e, q)
+
+  pub reply-given : {x : CursorContext} → v ≡ Admitted → x ≡ c → Context x ≡ contextReply w c
+  unfolding contextReply
+  reply-given q p = rw (← e, q, p)
+
+-- an admitted table has a record, and few
+pub sized : (t : List ℕ) (n : ℕ) {v : Verdict} → v ≡ verdict t n 0 → v ≡ Admitted → (0 < count t) × (count t < 4294967296)
+sized t n e q = let y = admitted-tidy t n 0 (sym e ∙ q) in (y .some, omega (arith, y .few))

@@ -1,0 +1,161 @@
+-- What is gathered on the way down is what the rules need: the deepest node whose rule applies, the deepest statement, and is a
+-- JoinConstraint on the path.
+-- Assumes nothing.
+use Prim.Native.Nat.{ℕ, zero, suc, _+_}
+use mathlib.Core.Path.{_≡_, refl, sym, ap, _∙_}
+use mathlib.Core.Bool.{Bool, true, false, cond, _||_}
+use mathlib.Core.List.{List, [], _∷_}
+use mathlib.Core.Option.{Option, none, some}
+use mathlib.Core.Logic.{⊎-elim}
+use native.Mathlib.Numerals.{add-one}
+use native.Mathlib.Omega.{arith}
+use borrow.Author.Tests.{eq-eqb, ne-eqb}
+use lib.Dec.{eqb}
+use Rattle.table.specs.declared.record.Rec.{Rec}
+use Rattle.table.specs.Kinds.{otherNode, joinConstraint}
+use Rattle.table.specs.Forest.{Forest}
+use Rattle.table.specs.Descent.{along}
+use Rattle.table.proofs.Laws.{eq-or-not}
+use Rattle.cursor.specs.declared.cursor_context.Next.{Next}
+use Rattle.cursor.specs.declared.cursor_context.Next.the-variants.{Deepest, Above}
+use Rattle.cursor.specs.declared.cursor_context.Gathered.{Gathered}
+use Rattle.cursor.specs.declared.cursor_context.CursorContext.{CursorContext}
+use Rattle.cursor.specs.declared.cursor_context.Answer.{Answer}
+use Rattle.cursor.specs.declared.cursor_context.Answer.the-variants.{GoOn, Given}
+use Rattle.cursor.specs.Path.{pathAt, inside, oneOf, deepestOr, deepest, onPath}
+use Rattle.cursor.specs.Trailing.{isStatement, trailingIn, trailingRule}
+use Rattle.cursor.specs.PathRules.{Rule, Seen, pathRules, ruled, orElse, nextOf, byPath, pathRule}
+use Rattle.cursor.specs.Context.{lastRule, givenOr, contextAt}
+use Rattle.cursor.specs.Steps.{applies, gives, decides, settled, stepped, nothing, gathered, trailingFrom, givenBy, ruledBy, analyzed}
+
+-- ---- one node
+
+ruled-gives : (k : ℕ) (rs : List Rule) → ruled k rs ≡ cond (applies k rs) (Given (gives k rs)) GoOn
+unfolding ruled applies gives
+ruled-gives k [] = refl
+ruled-gives k (r ∷ rs) = go (oneOf (r .kinds) k) (ruled-gives k rs)
+  where
+    go : (b : Bool) → ruled k rs ≡ cond (applies k rs) (Given (gives k rs)) GoOn
+        → cond b (cond (r .applies) (Given (r .gives)) GoOn) (ruled k rs)
+        ≡ cond (cond b (r .applies) (applies k rs)) (Given (cond b (r .gives) (gives k rs))) GoOn
+    go true e = refl
+    go false e = e
+
+module _ (src : List ℕ) (o : ℕ) (c : Bool) where
+  abbrev at : ℕ → Next → Forest → Seen
+  at k x f = record { kind = k; next = x; children = f; constrained = c }
+
+  rule-at : (k : ℕ) (x : Next) (f : Forest) → ruled k (pathRules src o (at k x f)) ≡ cond (decides k x) (Given (givenBy src o c k f)) GoOn
+  unfolding applies gives pathRules decides givenBy
+  rule-at k x f = ruled-gives k (pathRules src o (at k x f))
+
+other-decides : (x : Next) → decides otherNode x ≡ false
+unfolding decides
+other-decides x = refl
+
+decides-not-other : (k : ℕ) (x : Next) → decides k x ≡ true → eqb k otherNode ≡ false
+decides-not-other k x e =
+    ⊎-elim
+    (λ z. let f : false ≡ true = sym (other-decides x) ∙ (rw z at e) in let y : _≡_ {A = ℕ} 0 1 = cc in absurd (omega arith))
+    (λ z. ne-eqb k otherNode z)
+    (eq-or-not k otherNode)
+
+-- ---- the deepest node whose rule applies
+
+else-assoc : (a b c : Answer) → orElse (orElse a b) c ≡ orElse a (orElse b c)
+unfolding orElse
+else-assoc GoOn b c = refl
+else-assoc (Given x) b c = refl
+
+else-none : (a : Answer) → orElse a GoOn ≡ a
+unfolding orElse
+else-none GoOn = refl
+else-none (Given x) = refl
+
+module _ (src t : List ℕ) (o : ℕ) (c : Bool) where
+  -- what is told by the node that is kept, of this kind and number
+  abbrev told : ℕ → ℕ → Answer
+  told k i = cond (eqb k otherNode) GoOn (Given (givenBy src o c k (inside t i)))
+
+  settle-told : (g : Gathered) (x : Next) → orElse (ruled (g .kind) (pathRules src o (at src o c (g .kind) x (inside t (g .node))))) (told (g .ruling) (g .ruled))
+      ≡ told (settled g x .ruling) (settled g x .ruled)
+  unfolding settled
+  settle-told g x = rw (rule-at src o c (g .kind) x (inside t (g .node))) (go (decides (g .kind) x) refl)
+    where
+      go : (b : Bool) → decides (g .kind) x ≡ b
+          → orElse (cond b (Given (givenBy src o c (g .kind) (inside t (g .node)))) GoOn) (told (g .ruling) (g .ruled))
+          ≡ told (cond b (g .kind) (g .ruling)) (cond b (g .node) (g .ruled))
+      go true e = unfold orElse in rw (decides-not-other (g .kind) x e)
+      go false e = unfold orElse in refl
+
+  abbrev step : Gathered → Rec → Gathered
+  step g r = stepped g (r .kind) (r .index)
+
+  path-told : (l : List Rec) (p : Rec) (g : Gathered) → g .kind ≡ p .kind → g .node ≡ p .index
+      → orElse (byPath src t o c (p ∷ l)) (told (g .ruling) (g .ruled))
+      ≡ told (settled (along step g l) Deepest .ruling) (settled (along step g l) Deepest .ruled)
+  unfolding byPath along nextOf orElse stepped
+  path-told [] p g e q = rw (← e, ← q) (settle-told g Deepest)
+  path-told (r ∷ l) p g e q =
+      else-assoc (byPath src t o c (r ∷ l)) _ _
+      ∙ ap (orElse (byPath src t o c (r ∷ l))) (rw (← e, ← q) (settle-told g (Above (r .kind))))
+      ∙ path-told l r (step g r) refl refl
+
+  path-ruled : (p : List Rec) → byPath src t o c p ≡ told (gathered p .ruling) (gathered p .ruled)
+  unfolding gathered along byPath settled decides stepped
+  path-ruled [] = refl
+  path-ruled (r ∷ l) = sym (else-none (byPath src t o c (r ∷ l))) ∙ path-told l r (step nothing r) refl refl
+
+-- ---- the deepest statement, and the JoinConstraint
+
+or-assoc : (a b c : Bool) → ((a || b) || c) ≡ (a || (b || c))
+or-assoc true b c = refl
+or-assoc false b c = refl
+
+or-none : (a : Bool) → (a || false) ≡ a
+or-none true = refl
+or-none false = refl
+
+along-constrained : (l : List Rec) (g : Gathered) → along (λ g r. stepped g (r .kind) (r .index)) g l .constrained ≡ (g .constrained || onPath joinConstraint l)
+unfolding along onPath stepped settled
+along-constrained [] g = sym (or-none (g .constrained))
+along-constrained (r ∷ l) g = along-constrained l _ ∙ (or-assoc (g .constrained) (eqb (r .kind) joinConstraint) (onPath joinConstraint l))
+
+-- a node's number plus one, 0 for none
+unfoldable pub numbered : Option Rec → ℕ
+numbered none = 0
+numbered (some r) = suc (r .index)
+
+-- the deepest node that passes a test, as a number of what is gathered
+module _ (test : ℕ → Bool) (field : Gathered → ℕ)
+    (steps : (g : Gathered) (r : Rec) → field (stepped g (r .kind) (r .index)) ≡ cond (test (r .kind)) (r .index + 1) (field g)) where
+  pub along-deepest : (l : List Rec) (g : Gathered) (best : Option Rec) → field g ≡ numbered best
+      → field (along (λ g r. stepped g (r .kind) (r .index)) g l) ≡ numbered (deepestOr best test l)
+  unfolding along deepestOr
+  along-deepest [] g best e = e
+  along-deepest (r ∷ l) g best e = along-deepest l _ _ (steps g r ∙ go (test (r .kind)))
+    where
+      go : (b : Bool) → cond b (r .index + 1) (field g) ≡ numbered (cond b (some r) best)
+      go true = unfold numbered in add-one (r .index)
+      go false = e
+
+pub gathered-statement : (p : List Rec) → gathered p .statement ≡ numbered (deepest isStatement p)
+unfolding gathered settled stepped numbered
+gathered-statement p = along-deepest isStatement (λ g. g .statement) (λ g r. refl) p nothing none refl
+
+trailing-numbered : (t : List ℕ) (o : ℕ) (b : Option Rec) → trailingFrom t o (numbered b) ≡ trailingIn t o b
+unfolding trailingFrom trailingIn numbered
+trailing-numbered t o none = refl
+trailing-numbered t o (some r) = refl
+
+-- ---- the context
+
+gathered-constrained : (p : List Rec) → gathered p .constrained ≡ onPath joinConstraint p
+unfolding gathered settled
+gathered-constrained p = along-constrained p nothing
+
+pub analyzed-context : (src t : List ℕ) (o : ℕ) → analyzed src t o (gathered (pathAt t o)) ≡ contextAt src t o
+unfolding analyzed contextAt ruledBy
+analyzed-context src t o =
+    let p : List Rec = pathAt t o in
+    rw (gathered-statement p, trailing-numbered t o (deepest isStatement p), gathered-constrained p) (rw (path-ruled src t o (onPath joinConstraint p) p))

@@ -1,0 +1,165 @@
+-- Document 01, Cursor, "Then path nodes, deepest first": one rule for each of its lines, in its order.
+-- Definitions only.
+use Prim.Native.Nat.{ℕ}
+use mathlib.Core.Bool.{Bool, true, false, cond, _&&_, _||_}
+use mathlib.Core.List.{List, [], _∷_}
+use lib.Dec.{eqb}
+use Rattle.table.specs.declared.record.Rec.{Rec}
+use Rattle.table.specs.Kinds.{file, queryList, error, insertStatement, selectClause, fromClause, joinClause, prewhereClause, whereClause, groupByClause, havingClause, orderByClause, settingsClause, settingList, engineClause, formatClause, insertFormatClause, joinConstraint, tableIdentifier, columnDefinition, columnTypeDefinition, columnCodec, dataType, dataTypeParameters, functionCall, aggregateFunction}
+use Rattle.table.specs.Forest.{Forest}
+use Rattle.cursor.specs.declared.cursor_context.Name.{Name}
+use Rattle.cursor.specs.declared.cursor_context.Name.the-variants.{Nameless, Named}
+use Rattle.cursor.specs.declared.cursor_context.CursorContext.{CursorContext}
+use Rattle.cursor.specs.declared.cursor_context.CursorContext.the-variants.{SelectExpression, TableReference, ColumnOfTable, Expression, SettingName, EngineName, FormatName, DataType, CodecName, FunctionArgument, StatementStart}
+use Rattle.cursor.specs.declared.cursor_context.Answer.{Answer}
+use Rattle.cursor.specs.declared.cursor_context.Answer.the-variants.{GoOn, Given}
+use Rattle.cursor.specs.declared.cursor_context.Next.{Next}
+use Rattle.cursor.specs.declared.cursor_context.Next.the-variants.{Deepest, Above}
+use Rattle.cursor.specs.Path.{inside, oneOf, onPath}
+use Rattle.cursor.specs.LastToken.{lastTwo, dotted, isJoinWord}
+use Rattle.cursor.specs.Function.{functionName, arguments}
+
+-- ---- what a rule looks at
+
+-- a node on the path: its kind, what is next below it on the path, its children, and is kind 28 anywhere on the path
+pub record Seen : Type 0 where
+  pub kind : ℕ
+  pub next : Next
+  pub children : Forest
+  pub constrained : Bool
+
+-- what is next below a node, where these are the deeper nodes of the path
+unfoldable pub nextOf : List Rec → Next
+nextOf [] = Deepest
+nextOf (r ∷ rs) = Above (r .kind)
+
+-- the node is deepest
+unfoldable pub isDeepest : Next → Bool
+isDeepest Deepest = true
+isDeepest (Above k) = false
+
+-- the node is deepest, or a node of kind x is next below
+unfoldable pub deepestOver : ℕ → Next → Bool
+deepestOver x Deepest = true
+deepestOver x (Above k) = eqb k x
+
+-- ---- what a rule gives
+
+-- TableReference, prefix if dotted
+unfoldable pub tableReference : List ℕ → ℕ → Forest → CursorContext
+tableReference src o f = TableReference (dotted src (lastTwo o f))
+
+-- Expression if the last token is ON or USING, or if kind 28 is anywhere on the path; else as 16
+unfoldable pub joined : List ℕ → ℕ → Bool → Forest → CursorContext
+joined src o constrained f =
+    let reference : CursorContext = tableReference src o f in
+    cond (isJoinWord src (lastTwo o f) || constrained) Expression reference
+
+-- FunctionArgument
+unfoldable pub functionArgument : ℕ → Forest → CursorContext
+functionArgument o f = FunctionArgument (functionName f) (arguments o f .index)
+
+-- ColumnOfTable if dotted, else the other
+unfoldable pub columnOr : CursorContext → Name → CursorContext
+columnOr other Nameless = other
+columnOr other (Named r) = ColumnOfTable r
+
+-- ColumnOfTable if dotted, else SelectExpression for 15 and Expression for the rest
+unfoldable pub column : List ℕ → ℕ → ℕ → Forest → CursorContext
+column src o k f = columnOr (cond (eqb k selectClause) SelectExpression Expression) (dotted src (lastTwo o f))
+
+-- ---- the rules
+
+-- a rule: its number, the kinds that it speaks of, when it applies to a node of such a kind, and what it then gives
+pub record Rule : Type 0 where
+  pub number : ℕ
+  pub kinds : List ℕ
+  pub applies : Bool
+  pub gives : CursorContext
+
+abbrev rule : ℕ → List ℕ → Bool → CursorContext → Rule
+rule n ks a c = record { number = n; kinds = ks; applies = a; gives = c }
+
+abbrev pub fromRule : List ℕ → ℕ → Seen → Rule
+fromRule src o n = rule 2 (fromClause ∷ []) true (tableReference src o (n .children))
+
+abbrev pub joinRule : List ℕ → ℕ → Seen → Rule
+joinRule src o n = rule 3 (joinClause ∷ []) true (joined src o (n .constrained) (n .children))
+
+abbrev pub insertRule : List ℕ → ℕ → Seen → Rule
+insertRule src o n = rule 4 (insertStatement ∷ []) (deepestOver tableIdentifier (n .next)) (tableReference src o (n .children))
+
+abbrev pub settingsRule : List ℕ → ℕ → Seen → Rule
+settingsRule src o n = rule 5 (settingsClause ∷ settingList ∷ []) true SettingName
+
+abbrev pub engineRule : List ℕ → ℕ → Seen → Rule
+engineRule src o n = rule 6 (engineClause ∷ []) true EngineName
+
+abbrev pub formatRule : List ℕ → ℕ → Seen → Rule
+formatRule src o n = rule 7 (formatClause ∷ insertFormatClause ∷ []) true FormatName
+
+abbrev pub typeRule : List ℕ → ℕ → Seen → Rule
+typeRule src o n = rule 8 (columnTypeDefinition ∷ dataType ∷ dataTypeParameters ∷ []) true DataType
+
+abbrev pub definitionRule : List ℕ → ℕ → Seen → Rule
+definitionRule src o n = rule 9 (columnDefinition ∷ []) (deepestOver error (n .next)) DataType
+
+abbrev pub codecRule : List ℕ → ℕ → Seen → Rule
+codecRule src o n = rule 10 (columnCodec ∷ []) true CodecName
+
+abbrev pub functionRule : List ℕ → ℕ → Seen → Rule
+functionRule src o n = rule 11 (functionCall ∷ aggregateFunction ∷ []) true (functionArgument o (n .children))
+
+abbrev pub columnRule : List ℕ → ℕ → Seen → Rule
+columnRule src o n =
+    rule 12 (selectClause ∷ prewhereClause ∷ whereClause ∷ groupByClause ∷ havingClause ∷ orderByClause ∷ []) true
+    (column src o (n .kind) (n .children))
+
+abbrev pub startRule : List ℕ → ℕ → Seen → Rule
+startRule src o n = rule 13 (file ∷ queryList ∷ []) (isDeepest (n .next)) StatementStart
+
+unfoldable pub pathRules : List ℕ → ℕ → Seen → List Rule
+pathRules src o n =
+    fromRule src o n
+    ∷ joinRule src o n
+    ∷ insertRule src o n
+    ∷ settingsRule src o n
+    ∷ engineRule src o n
+    ∷ formatRule src o n
+    ∷ typeRule src o n
+    ∷ definitionRule src o n
+    ∷ codecRule src o n
+    ∷ functionRule src o n
+    ∷ columnRule src o n
+    ∷ startRule src o n
+    ∷ []
+
+-- what the rule that speaks of kind k gives, if it applies; all others go on
+unfoldable pub ruled : ℕ → List Rule → Answer
+ruled k [] = GoOn
+ruled k (r ∷ rs) =
+    let given : Answer = cond (r .applies) (Given (r .gives)) GoOn in
+    let on : Answer = ruled k rs in
+    cond (oneOf (r .kinds) k) given on
+
+-- ---- deepest first
+
+-- this answer, or where it goes on the other
+unfoldable pub orElse : Answer → Answer → Answer
+orElse GoOn other = other
+orElse (Given c) other = Given c
+
+-- a node as the rules see it, where `deeper` is what the path has below it
+abbrev pub seen : List ℕ → Bool → Rec → List Rec → Seen
+seen t constrained r deeper =
+    record { kind = r .kind; next = nextOf deeper; children = inside t (r .index); constrained = constrained }
+
+-- what the nodes of a part of the path give, the deepest first
+unfoldable pub byPath : List ℕ → List ℕ → ℕ → Bool → List Rec → Answer
+byPath src t o constrained [] = GoOn
+byPath src t o constrained (r ∷ deeper) =
+    orElse (byPath src t o constrained deeper) (ruled (r .kind) (pathRules src o (seen t constrained r deeper)))
+
+-- rules 2 to 13
+abbrev pub pathRule : List ℕ → List ℕ → ℕ → List Rec → Answer
+pathRule src t o p = byPath src t o (onPath joinConstraint p) p
