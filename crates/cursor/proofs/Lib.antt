@@ -10,3 +10,4 @@ pub mod Coded
 pub mod Roots
 pub mod Ranges
 pub mod Early
+pub mod Nests
