@@ -1,0 +1,111 @@
+-- A reply's number tells it apart from every other: two replies that C gets as one number are equal.
+-- Of a reply is asked what its 32-bit fields give: each number is below `half`; that a refusal's number is not 0, which
+-- `numbered` proves of document 01's rules; and that a hint names a record below `none`, as every record of a table is.
+use Prim.Native.Nat.{ℕ, zero, suc, _<_}
+use mathlib.Core.Path.{_≡_, refl}
+use mathlib.Core.Bool.{Bool, true, false, cond}
+use mathlib.Core.List.{List, [], _∷_, _++_}
+use native.Mathlib.Omega.{arith}
+use Rattle.table.specs.declared.check.Verdict.{Verdict}
+use Rattle.table.specs.declared.check.Verdict.the-variants.{Admitted, Refused}
+use Rattle.table.specs.declared.list.Listed.{Listed}
+use Rattle.table.specs.declared.list.Listed.the-variants.{Entries, Refused as Denied}
+use Rattle.table.specs.Rules.{Rule, rule, first, rules, rulesFrom, rootRules}
+use Rattle.table.specs.Lists.{roomRule}
+use Rattle.scope.specs.declared.bracket_matching.Hint.{Hint}
+use Rattle.scope.specs.declared.bracket_matching.Hint.the-variants.{Opener, NoOpener}
+use Rattle.scope.specs.declared.bracket_matching.HintReply.{HintReply}
+use Rattle.scope.specs.declared.bracket_matching.HintReply.the-variants.{Hinted, Refused as Unhinted}
+use Rattle.desk.specs.Reply.{half, none, packed, verdictReply, listReply, hintRecord, hintReply}
+
+-- the halves of a number come back
+pub halves : (a b c d : ℕ) → a < half → c < half → packed a b ≡ packed c d → (a ≡ c) × (b ≡ d)
+halves a b c d p q e = (omega arith, omega arith)
+
+-- a refusal as its 32-bit fields hold it
+pub record Numbers (k d : ℕ) : Type 0 where
+  pub some : 0 < k
+  pub low : k < half
+  pub high : d < half
+
+unfoldable pub Verdicts : Verdict → Type 0
+Verdicts Admitted = 0 < half
+Verdicts (Refused k d) = Numbers k d
+
+unfoldable pub Lists : Listed → Type 0
+Lists (Entries n) = n < half
+Lists (Denied k d) = Numbers k d
+
+unfoldable pub Hints : HintReply → Type 0
+Hints (Hinted (Opener i)) = i < none
+Hints (Hinted NoOpener) = 0 < none
+Hints (Unhinted k d) = Numbers k d
+
+pub verdict-apart : (v w : Verdict) → Verdicts v → Verdicts w → verdictReply v ≡ verdictReply w → v ≡ w
+unfolding Verdicts verdictReply
+verdict-apart Admitted Admitted p q e = refl
+verdict-apart Admitted (Refused k d) p q e = absurd (omega arith)
+verdict-apart (Refused k d) Admitted p q e = absurd (omega arith)
+verdict-apart (Refused k d) (Refused l f) p q e =
+    let s = halves k d l f (p .low) (q .low) e in
+    let s0 : k ≡ l = s .0 in
+    let s1 : d ≡ f = s .1 in cc
+
+pub list-apart : (v w : Listed) → Lists v → Lists w → listReply v ≡ listReply w → v ≡ w
+unfolding Lists listReply
+list-apart (Entries n) (Entries m) p q e = let s : n ≡ m = omega arith in cc
+list-apart (Entries n) (Denied k d) p q e = absurd (omega arith)
+list-apart (Denied k d) (Entries n) p q e = absurd (omega arith)
+list-apart (Denied k d) (Denied l f) p q e =
+    let s = halves k d l f (p .low) (q .low) e in
+    let s0 : k ≡ l = s .0 in
+    let s1 : d ≡ f = s .1 in cc
+
+pub hint-apart : (v w : HintReply) → Hints v → Hints w → hintReply v ≡ hintReply w → v ≡ w
+unfolding Hints hintReply hintRecord
+hint-apart (Hinted (Opener i)) (Hinted (Opener j)) p q e = let s : i ≡ j = omega arith in cc
+hint-apart (Hinted (Opener i)) (Hinted NoOpener) p q e = absurd (omega arith)
+hint-apart (Hinted NoOpener) (Hinted (Opener j)) p q e = absurd (omega arith)
+hint-apart (Hinted NoOpener) (Hinted NoOpener) p q e = refl
+hint-apart (Hinted (Opener i)) (Unhinted k d) p q e = absurd (omega arith)
+hint-apart (Hinted NoOpener) (Unhinted k d) p q e = absurd (omega arith)
+hint-apart (Unhinted k d) (Hinted (Opener j)) p q e = absurd (omega arith)
+hint-apart (Unhinted k d) (Hinted NoOpener) p q e = absurd (omega arith)
+hint-apart (Unhinted k d) (Unhinted l f) p q e =
+    let s = halves k d l f (p .low) (q .low) e in
+    let s0 : k ≡ l = s .0 in
+    let s1 : d ≡ f = s .1 in cc
+
+-- ---- a refusal's number is not 0: no rule has that number
+
+pub data Numbered : List Rule → Type 0 where
+  done : Numbered []
+  more : (k d : ℕ) (b : Bool) {rs : List Rule} → 0 < k → Numbered rs → Numbered (rule k d b ∷ rs)
+
+both : {rs ss : List Rule} → Numbered rs → Numbered ss → Numbered (rs ++ ss)
+both done q = q
+both (more k d b h p) q = more k d b h (both p q)
+
+from-record : (t : List ℕ) (n i c : ℕ) → Numbered (rulesFrom t n i c)
+unfolding rulesFrom
+from-record t n i zero = done
+from-record t n i (suc c) =
+    more 3 i _ (omega arith) (more 4 i _ (omega arith) (more 5 i _ (omega arith) (more 6 i _ (omega arith) (from-record t n (suc i) c))))
+
+pub all-rules : (t : List ℕ) (n m : ℕ) → Numbered (rules t n m)
+all-rules t n m = more 1 0 _ (omega arith) (more 2 0 _ (omega arith) (from-record t n 0 _))
+
+pub root-rules : (t : List ℕ) (n i : ℕ) → Numbered (rootRules t n i)
+root-rules t n i = both (all-rules t n 0) (more 8 0 _ (omega arith) done)
+
+pub with-room : {E : Type 0} {rs : List Rule} (row : E → List ℕ) (es : List E) (out : List ℕ) →
+    Numbered rs → Numbered (rs ++ roomRule row es out ∷ [])
+with-room row es out p = both p (more 7 _ _ (omega arith) done)
+
+by-head : (b : Bool) (j f k d : ℕ) (rest : Verdict) → 0 < j → (rest ≡ Refused k d → 0 < k) → cond b (Refused j f) rest ≡ Refused k d → 0 < k
+by-head true j f k d rest h on e = let s : j ≡ k = cc in omega arith
+by-head false j f k d rest h on e = on e
+
+pub numbered : {rs : List Rule} (k d : ℕ) → Numbered rs → first rs ≡ Refused k d → 0 < k
+numbered k d done e = let z : _≡_ {A = ℕ} 0 1 = cc in omega arith
+numbered k d (more j f b {rs} h p) e = by-head b j f k d (first rs) h (λ w. numbered k d p w) e

@@ -1,0 +1,12 @@
+use borrow.Author.Needs.{needs}
+use Rattle.desk.proofs.desk_column_aliases.Statement.{statement}
+use Rattle.desk.proofs.desk_column_aliases.Tie as tie
+
+pub desk-column-aliases-spec : {M : Type 1} → statement M
+desk-column-aliases-spec =
+    tie.close
+    (tie.spec
+    (λ c κs. search needs)  -- column-aliases-requires
+    (λ c κs. search needs)  -- list-reply-requires
+    (λ c. search needs)  -- same-length
+    (λ c. (cc, c .before .before .before .column-aliases .ensures .1)))  -- returns

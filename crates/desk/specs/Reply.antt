@@ -1,0 +1,47 @@
+-- The replies as C gets them: one number of 64 bits, whose halves `packed` puts together.
+-- Definitions only.
+use Prim.Native.Nat.{ℕ, _+_, _*_}
+use Rattle.table.specs.declared.check.Verdict.{Verdict}
+use Rattle.table.specs.declared.check.Verdict.the-variants.{Admitted, Refused}
+use Rattle.table.specs.declared.list.Listed.{Listed}
+use Rattle.table.specs.declared.list.Listed.the-variants.{Entries, Refused as Denied}
+use Rattle.scope.specs.declared.bracket_matching.Hint.{Hint}
+use Rattle.scope.specs.declared.bracket_matching.Hint.the-variants.{Opener, NoOpener}
+use Rattle.scope.specs.declared.bracket_matching.HintReply.{HintReply}
+use Rattle.scope.specs.declared.bracket_matching.HintReply.the-variants.{Hinted, Refused as Unhinted}
+
+-- how many values a half has
+abbrev pub half : ℕ
+half = 4294967296
+
+-- the low half is a refusal's number, 0 where the question is answered; the high half its detail, or the answer
+abbrev pub packed : ℕ → ℕ → ℕ
+packed low high = low + half * high
+
+-- the low half of an answer
+abbrev pub answered : ℕ
+answered = 0
+
+-- the high half where the answer is that there is none
+abbrev pub none : ℕ
+none = 4294967295
+
+-- a verdict: nothing more to say where the table is admitted
+unfoldable pub verdictReply : Verdict → ℕ
+verdictReply Admitted = packed answered 0
+verdictReply (Refused k d) = packed k d
+
+-- a list: how many entries were written
+unfoldable pub listReply : Listed → ℕ
+listReply (Entries n) = packed answered n
+listReply (Denied k d) = packed k d
+
+-- the record that a hint names, or none
+unfoldable pub hintRecord : Hint → ℕ
+hintRecord (Opener i) = i
+hintRecord NoOpener = none
+
+-- a hint
+unfoldable pub hintReply : HintReply → ℕ
+hintReply (Hinted h) = packed answered (hintRecord h)
+hintReply (Unhinted k d) = packed k d

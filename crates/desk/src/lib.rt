@@ -1,0 +1,143 @@
+// The C boundary: every question over numbers and byte slices, a slice being a pointer and a length. The reply is one number:
+// its low 32 bits are the refusal's number, 0 where the question is answered, and its high 32 bits the detail or the answer.
+use scope::bracket_matching::Hint;
+use scope::bracket_matching::HintReply;
+use scope::bracket_matching::bracket_hint;
+use scope::bracket_matching::openers_left;
+use scope::scope::column_aliases;
+use scope::scope::table_aliases;
+use scope::scope::table_refs;
+use scope::scope::with_names;
+use scope::semantic_tokens::token_classes;
+use table::check::Verdict;
+use table::check::check;
+use table::list::Listed;
+ghost use mathlib.Core.Path.{_≡_};
+ghost use lib.ListN.{length};
+ghost use Rattle.table.specs.Rules.{rules, rootRules, verdict};
+ghost use Rattle.table.specs.Lists.{listed, lent};
+ghost use Rattle.scope.specs.Classes.{row as classRow, classesOf};
+ghost use Rattle.scope.specs.Brackets.{row as openerRow, stackLeft, openersLeft, hintOf, hinted};
+ghost use Rattle.scope.specs.ScopeQuestions.{bindingRow, referenceRow, withNames, tableAliases, columnAliases, tableRefs};
+ghost use Rattle.desk.specs.Reply.{packed, verdictReply, listReply, hintRecord, hintReply};
+
+// How many values a half of a reply has.
+const HALF: u64 = 4294967296;
+
+// The low half of an answer.
+const ANSWERED: u32 = 0;
+
+// The high half where the answer is that there is none.
+const NONE: u32 = 4294967295;
+
+fn packed(low: u32, high: u32) -> u64
+    ensures { λ r. ⌜ r ≡ packed low high ⌝ }
+{
+    low as u64 + HALF * (high as u64)
+}
+
+fn verdict_reply(v: Verdict) -> u64
+    ensures { λ r. ⌜ r ≡ verdictReply v ⌝ }
+{
+    match v {
+        Verdict::Admitted => packed(ANSWERED, 0),
+        Verdict::Refused(k, d) => packed(k, d),
+    }
+}
+
+fn list_reply(l: Listed) -> u64
+    ensures { λ r. ⌜ r ≡ listReply l ⌝ }
+{
+    match l {
+        Listed::Entries(n) => packed(ANSWERED, n),
+        Listed::Refused(k, d) => packed(k, d),
+    }
+}
+
+fn hint_record(h: Hint) -> u32
+    ensures { λ r. ⌜ r ≡ hintRecord h ⌝ }
+{
+    match h {
+        Hint::Opener(i) => i,
+        Hint::NoOpener => NONE,
+    }
+}
+
+fn hint_reply(h: HintReply) -> u64
+    ensures { λ r. ⌜ r ≡ hintReply h ⌝ }
+{
+    match h {
+        HintReply::Hinted(x) => packed(ANSWERED, hint_record(x)),
+        HintReply::Refused(k, d) => packed(k, d),
+    }
+}
+
+// Is the table admitted? High half of an answer: 0.
+#[no_mangle]
+pub extern "C" fn desk_check(table: &[u8], source: &[u8]) -> u64
+    ensures { λ r. ⌜ r ≡ verdictReply (verdict (now (table .entry)) (length (now (source .entry))) 0) ⌝ }
+{
+    verdict_reply(check(table, source))
+}
+
+// The classed tokens. High half of an answer: the entries written.
+#[no_mangle]
+pub extern "C" fn desk_token_classes(table: &[u8], source: &[u8], out: &mut [u8]) -> u64
+    ensures { λ r. ⌜ (r ≡ listReply (listed (rules (now (table .entry)) (length (now (source .entry))) 0) classRow (classesOf (now (source .entry)) (now (table .entry))) (now (out .entry))))
+        × (now (out .exit) ≡ lent (rules (now (table .entry)) (length (now (source .entry))) 0) classRow (classesOf (now (source .entry)) (now (table .entry))) (now (out .entry))) ⌝ }
+{
+    list_reply(token_classes(table, source, out))
+}
+
+// The openers left. High half of an answer: the entries written.
+#[no_mangle]
+pub extern "C" fn desk_openers_left(table: &[u8], source: &[u8], out: &mut [u8]) -> u64
+    ensures { λ r. ⌜ (r ≡ listReply (listed (rules (now (table .entry)) (length (now (source .entry))) 0) openerRow (openersLeft (now (table .entry))) (now (out .entry))))
+        × (now (out .exit) ≡ lent (rules (now (table .entry)) (length (now (source .entry))) 0) openerRow (openersLeft (now (table .entry))) (now (out .entry))) ⌝ }
+{
+    list_reply(openers_left(table, source, out))
+}
+
+// The opener that a message speaks of. High half of an answer: its record, or 4294967295 for none.
+#[no_mangle]
+pub extern "C" fn desk_bracket_hint(table: &[u8], source: &[u8], message: &[u8]) -> u64
+    ensures { λ r. ⌜ r ≡ hintReply (hinted (verdict (now (table .entry)) (length (now (source .entry))) (length (now (message .entry)))) (hintOf (now (message .entry)) (stackLeft (now (table .entry))))) ⌝ }
+{
+    hint_reply(bracket_hint(table, source, message))
+}
+
+// The WITH names of a root. High half of an answer: the entries written.
+#[no_mangle]
+pub extern "C" fn desk_with_names(table: &[u8], source: &[u8], root: u32, out: &mut [u8]) -> u64
+    ensures { λ r. ⌜ (r ≡ listReply (listed (rootRules (now (table .entry)) (length (now (source .entry))) root) bindingRow (withNames (now (source .entry)) (now (table .entry)) root) (now (out .entry))))
+        × (now (out .exit) ≡ lent (rootRules (now (table .entry)) (length (now (source .entry))) root) bindingRow (withNames (now (source .entry)) (now (table .entry)) root) (now (out .entry))) ⌝ }
+{
+    list_reply(with_names(table, source, root as usize, out))
+}
+
+// The table aliases of a root. High half of an answer: the entries written.
+#[no_mangle]
+pub extern "C" fn desk_table_aliases(table: &[u8], source: &[u8], root: u32, out: &mut [u8]) -> u64
+    ensures { λ r. ⌜ (r ≡ listReply (listed (rootRules (now (table .entry)) (length (now (source .entry))) root) bindingRow (tableAliases (now (source .entry)) (now (table .entry)) root) (now (out .entry))))
+        × (now (out .exit) ≡ lent (rootRules (now (table .entry)) (length (now (source .entry))) root) bindingRow (tableAliases (now (source .entry)) (now (table .entry)) root) (now (out .entry))) ⌝ }
+{
+    list_reply(table_aliases(table, source, root as usize, out))
+}
+
+// The column aliases of a root. High half of an answer: the entries written.
+#[no_mangle]
+pub extern "C" fn desk_column_aliases(table: &[u8], source: &[u8], root: u32, out: &mut [u8]) -> u64
+    ensures { λ r. ⌜ (r ≡ listReply (listed (rootRules (now (table .entry)) (length (now (source .entry))) root) bindingRow (columnAliases (now (source .entry)) (now (table .entry)) root) (now (out .entry))))
+        × (now (out .exit) ≡ lent (rootRules (now (table .entry)) (length (now (source .entry))) root) bindingRow (columnAliases (now (source .entry)) (now (table .entry)) root) (now (out .entry))) ⌝ }
+{
+    list_reply(column_aliases(table, source, root as usize, out))
+}
+
+// The table references of a root. High half of an answer: the entries written.
+#[no_mangle]
+pub extern "C" fn desk_table_refs(table: &[u8], source: &[u8], root: u32, out: &mut [u8]) -> u64
+    ensures { λ r. ⌜ (r ≡ listReply (listed (rootRules (now (table .entry)) (length (now (source .entry))) root) referenceRow (tableRefs (now (source .entry)) (now (table .entry)) root) (now (out .entry))))
+        × (now (out .exit) ≡ lent (rootRules (now (table .entry)) (length (now (source .entry))) root) referenceRow (tableRefs (now (source .entry)) (now (table .entry)) root) (now (out .entry))) ⌝ }
+{
+    list_reply(table_refs(table, source, root as usize, out))
+}

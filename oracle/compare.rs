@@ -1,0 +1,215 @@
+//! Both sides on one frame: every reply and every byte of every buffer.
+use crate::desk::{self, List, SCOPE};
+use crate::frames::{Frame, NONE};
+use crate::rust::{lone_quotes, Asked, Said};
+use std::sync::atomic::{AtomicUsize, Ordering};
+
+/// What was seen on the way.
+#[derive(Default)]
+pub struct Tally {
+    pub rust_asked: usize,
+    pub refused: [usize; 9],
+    pub stopped: usize,
+    pub lists: usize,
+    pub entries: usize,
+    pub contexts: [usize; 13],
+}
+
+/// Which of our answers is falsified, to see that it is found: 0 none, 1 the check, 2 the hint, then each list's count, bytes and guard.
+pub static FLIP: AtomicUsize = AtomicUsize::new(0);
+pub const FLIPS: usize = 2 + 3 * 6;
+
+fn flipped(n: usize) -> bool {
+    FLIP.load(Ordering::Relaxed) == n
+}
+
+/// Document 01's refusals 1 to 6, written anew from its table.
+pub fn refusal(f: &Frame, message: usize) -> Option<(u32, u32)> {
+    let bytes = 16 * f.recs.len() + f.rest;
+    if bytes == 0 || bytes % 16 != 0 || bytes / 16 > 4096 {
+        return Some((1, 0));
+    }
+    if f.source.len() > 65536 || message > 4096 {
+        return Some((2, 0));
+    }
+    let mut end = 0;
+    for (i, r) in f.recs.iter().enumerate() {
+        let node = r.kind <= 55;
+        let token = (128..=157).contains(&r.kind);
+        let misplaced = match i.checked_sub(1).map(|p| f.recs[p]) {
+            None => !node || r.depth != 0,
+            Some(p) => r.depth == 0 || r.depth as u64 > p.depth as u64 + 1 || p.is_token() && r.depth > p.depth,
+        };
+        let number = if !node && !token {
+            3
+        } else if misplaced {
+            4
+        } else if r.depth > 63 {
+            5
+        } else if token && (r.start > r.end || r.end as usize > f.source.len() || r.start < end) {
+            6
+        } else {
+            if token { end = r.end }
+            continue;
+        };
+        return Some((number, i as u32));
+    }
+    None
+}
+
+const GUARD: usize = 24;
+
+/// Asks for a list in a buffer of `room` bytes that has guard bytes on both sides, and compares the reply and all bytes.
+fn ask(q: List, f: &Frame, table: &[u8], root: u32, room: usize, refused: Option<(u32, u32)>, entries: &[Vec<u32>]) -> Result<(), String> {
+    let mut all: Vec<u8> = (0..GUARD + room + GUARD).map(|i| (i * 37 + 11) as u8).collect();
+    let mut expected = all.clone();
+    let need = entries.len() * q.width();
+    let reply = match refused {
+        Some(r) => r,
+        None if need > room => (7, entries.len() as u32),
+        None => {
+            for (i, n) in entries.iter().flatten().enumerate() {
+                expected[GUARD + 4 * i..GUARD + 4 * i + 4].copy_from_slice(&n.to_le_bytes());
+            }
+            (0, entries.len() as u32)
+        }
+    };
+    let mut got = desk::list(q, table, &f.source, root, &mut all[GUARD..GUARD + room]);
+    let flip = 3 + 3 * q as usize;
+    if flipped(flip) { got.1 ^= 1 }
+    if flipped(flip + 1) && got.0 == 0 && got.1 > 0 { all[GUARD + got.1 as usize * q.width() - 1] ^= 1 }
+    if flipped(flip + 2) { all[GUARD + room] ^= 1 }
+    if got != reply {
+        return Err(format!("{q:?} of root {root} in {room} bytes: ours {got:?}, the Rust {reply:?}; its entries {entries:?}"));
+    }
+    if all != expected {
+        let at = (0..all.len()).find(|&i| all[i] != expected[i]).expect("one");
+        return Err(format!("{q:?} of root {root} in {room} bytes: byte {} differs; the Rust's entries {entries:?}", at as i64 - GUARD as i64));
+    }
+    Ok(())
+}
+
+/// The same in every room: more than enough, exactly enough, one byte short, none.
+fn in_rooms(q: List, f: &Frame, table: &[u8], root: u32, entries: &[Vec<u32>], tally: &mut Tally) -> Result<(), String> {
+    let need = entries.len() * q.width();
+    tally.lists += 1;
+    tally.entries += entries.len();
+    // room for an entry for each record is another way through our code than just enough
+    for room in [need + 13, need, need.saturating_sub(1), 0, 56 * f.recs.len()] {
+        ask(q, f, table, root, room, None, entries)?;
+    }
+    Ok(())
+}
+
+fn roots(f: &Frame) -> Vec<usize> {
+    let nodes: Vec<usize> = (0..f.recs.len()).filter(|&i| !f.recs[i].is_token()).collect();
+    let step = if f.recs.len() <= 40 { 1 } else { nodes.len().div_ceil(6) };
+    nodes.into_iter().step_by(step).collect()
+}
+
+fn offsets(f: &Frame) -> Vec<u32> {
+    let n = f.source.len() as u32;
+    let mut out = vec![0, n / 3, n / 2, n.saturating_sub(1), n, n + 1, NONE];
+    out.extend(f.recs.iter().step_by(f.recs.len().div_ceil(12)).map(|r| r.end));
+    out
+}
+
+/// The Rust's answers at a cursor. The place for `desk_context` and `desk_statement`: compare their replies with these two.
+fn cursor(rust: &Asked, offset: u32, tally: &mut Tally) -> Result<(), String> {
+    let _statement = rust.statement(offset);
+    let context = rust.context(offset)?;
+    tally.contexts[context[0] as usize] += 1;
+    Ok(())
+}
+
+/// The first difference on a frame, if there is one.
+pub fn difference(f: &Frame, tally: &mut Tally) -> Result<(), String> {
+    let table = f.table();
+    let refused = refusal(f, 0);
+    let mut ours = desk::check(&table, &f.source);
+    if flipped(1) { ours.1 ^= 1 }
+    if ours != refused.unwrap_or((0, 0)) {
+        return Err(format!("check: ours {ours:?}, by document 01 {refused:?}"));
+    }
+    let mut hint = desk::hint(&table, &f.source, &f.message);
+    if flipped(2) { hint.1 ^= 1 }
+    if let Some(r) = refusal(f, f.message.len()) {
+        tally.refused[r.0 as usize] += 1;
+        if hint != r {
+            return Err(format!("hint: ours {hint:?}, by document 01 {r:?}"));
+        }
+    }
+    if refused.is_some() {
+        for q in [List::Classes, List::Openers].iter().chain(&SCOPE) {
+            for root in [0, 1, f.recs.len() as u32] {
+                ask(*q, f, &table, root, 0, refused, &[])?;
+                ask(*q, f, &table, root, 64, refused, &[])?;
+            }
+        }
+        return Ok(());
+    }
+    for q in SCOPE {
+        for root in [f.recs.len(), NONE as usize, f.recs.len() + 4096].into_iter().chain((0..f.recs.len()).filter(|&i| f.recs[i].is_token()).take(2)) {
+            ask(q, f, &table, root as u32, 64, Some((8, 0)), &[])?;
+        }
+    }
+    let Some(rust) = Asked::new(f) else { return Ok(()) };
+    tally.rust_asked += 1;
+    if f.message.len() <= 4096 {
+        let expected = rust.hint(std::str::from_utf8(&f.message).expect("ASCII"))?;
+        if hint != (0, expected) {
+            return Err(format!("hint: ours {hint:?}, the Rust {expected}"));
+        }
+    }
+    in_rooms(List::Classes, f, &table, 0, &rust.classes(), tally)?;
+    in_rooms(List::Openers, f, &table, 0, &rust.openers()?, tally)?;
+    for root in roots(f) {
+        let lists = match rust.scope(root) {
+            Said::Answer(lists) => lists?,
+            Said::Stopped => { tally.stopped += 1; unstopped(f, root)? }
+        };
+        for (q, entries) in SCOPE.into_iter().zip(lists) {
+            in_rooms(q, f, &table, root as u32, &entries, tally)?;
+        }
+    }
+    for offset in offsets(f) {
+        cursor(&rust, offset, tally)?;
+    }
+    Ok(())
+}
+
+/// A lone quote mark stops the Rust, and ours keeps it: what the Rust says with a letter in its place.
+fn unstopped(f: &Frame, root: usize) -> Result<[Vec<Vec<u32>>; 4], String> {
+    let mut other = f.clone();
+    for i in lone_quotes(f) {
+        other.source[f.recs[i].start as usize] = b'x';
+    }
+    let asked = Asked::new(&other).expect("as the frame itself");
+    match asked.scope(root) {
+        Said::Answer(lists) if other.source != f.source => lists,
+        _ => Err(format!("the Rust stopped at root {root} with no lone quote mark")),
+    }
+}
+
+/// The frame without records that the difference does not need.
+pub fn reduced(mut f: Frame) -> Frame {
+    let differs = |f: &Frame| difference(f, &mut Tally::default()).is_err();
+    let mut i = f.recs.len();
+    while i > 0 {
+        i = (i - 1).min(f.recs.len().saturating_sub(1));
+        let Some(r) = f.recs.get(i).copied() else { break };
+        let end = (i + 1..f.recs.len()).find(|&j| f.recs[j].depth <= r.depth).unwrap_or(f.recs.len());
+        let mut without = f.clone();
+        without.recs.drain(i..end);
+        let mut lifted = f.clone();
+        lifted.recs.remove(i);
+        for below in &mut lifted.recs[i..end - 1] {
+            below.depth = below.depth.wrapping_sub(1);
+        }
+        if let Some(smaller) = [without, lifted].into_iter().find(differs) {
+            f = smaller;
+            i = f.recs.len();
+        }
+    }
+    f
+}

@@ -1,0 +1,387 @@
+//! Frames: a source, a table and a message, from a seed.
+pub const NONE: u32 = u32::MAX;
+pub const BARE_WORD: u32 = 131;
+pub const QUOTED: u32 = 132;
+pub const TABLE_IDENTIFIER: u32 = 33;
+
+#[derive(Clone, Copy, PartialEq, Debug)]
+pub struct Rec {
+    pub kind: u32,
+    pub depth: u32,
+    pub start: u32,
+    pub end: u32,
+}
+
+impl Rec {
+    pub fn is_token(&self) -> bool {
+        self.kind >= 128
+    }
+}
+
+#[derive(Clone)]
+pub struct Frame {
+    pub source: Vec<u8>,
+    pub recs: Vec<Rec>,
+    pub message: Vec<u8>,
+    /// Bytes behind the last record, for tables of a wrong length.
+    pub rest: usize,
+}
+
+impl Frame {
+    /// The text of a token of an admitted table; nothing for other records.
+    pub fn text(&self, i: usize) -> &[u8] {
+        let r = self.recs[i];
+        if r.is_token() { self.source.get(r.start as usize..r.end as usize).unwrap_or(&[]) } else { &[] }
+    }
+
+    pub fn table(&self) -> Vec<u8> {
+        let mut t: Vec<u8> = self.recs.iter().flat_map(|r| [r.kind, r.depth, r.start, r.end]).flat_map(u32::to_le_bytes).collect();
+        t.resize(t.len() + self.rest, 0);
+        t
+    }
+}
+
+/// xorshift: the same frames from the same seed, everywhere.
+pub struct Seed(pub u64);
+
+impl Seed {
+    pub fn below(&mut self, n: usize) -> usize {
+        self.0 ^= self.0 << 13;
+        self.0 ^= self.0 >> 7;
+        self.0 ^= self.0 << 17;
+        ((self.0 >> 11) % n as u64) as usize
+    }
+
+    pub fn one_in(&mut self, n: usize) -> bool {
+        self.below(n) == 0
+    }
+
+    fn of<T: Copy>(&mut self, all: &[T]) -> T {
+        all[self.below(all.len())]
+    }
+}
+
+#[derive(Clone, Copy, PartialEq, Debug)]
+pub enum Sort {
+    Query,
+    Random,
+    Deep,
+    Large,
+    Damaged,
+}
+
+pub const SORTS: [Sort; 5] = [Sort::Query, Sort::Random, Sort::Deep, Sort::Large, Sort::Damaged];
+
+const MESSAGES: [&str; 9] = [
+    "", "expected )", "expected ]", "expected }", "x expected ] or expected )", "expected", "unexpected )", "expected }, expected ]", "é expected )é",
+];
+
+pub fn frame(sort: Sort, seed: &mut Seed) -> Frame {
+    let mut f = match sort {
+        Sort::Query => query(seed, 1),
+        Sort::Random => {
+            let most = seed.of(&[3, 6, 12, 25, 60]);
+            let deepest = seed.of(&[3, 6, 12]);
+            random(seed, most, deepest)
+        }
+        Sort::Deep => random(seed, 200, 63),
+        Sort::Large => {
+            let n = seed.of(&[1024, 4096]);
+            if seed.one_in(2) { sized_query(seed, n) } else { random(seed, n, 63) }
+        }
+        Sort::Damaged => {
+            let mut f = if seed.one_in(2) { query(seed, 1) } else { random(seed, 20, 8) };
+            damage(&mut f, seed);
+            if f.message.is_empty() {
+                f.message = seed.of(&MESSAGES).as_bytes().to_vec();
+            }
+            return f;
+        }
+    };
+    f.message = seed.of(&MESSAGES).as_bytes().to_vec();
+    f
+}
+
+// ---- realistic queries, with consistent spans
+
+struct Query<'a> {
+    f: Frame,
+    depth: u32,
+    seed: &'a mut Seed,
+}
+
+const WORDS: [&str; 14] = ["a", "b", "orders", "labs", "raw", "r", "x1", "Größe", "表", "🙂n", "date", "type", "count", "Key"];
+
+impl Query<'_> {
+    fn token(&mut self, kind: u32, text: &str) {
+        let start = self.f.source.len() as u32;
+        self.f.source.extend(text.as_bytes());
+        let end = self.f.source.len() as u32;
+        self.f.recs.push(Rec { kind, depth: self.depth, start, end });
+    }
+
+    fn space(&mut self) {
+        match self.seed.below(12) {
+            0 => self.token(130, "/* ( é */"),
+            1 => self.token(129, "\n  "),
+            _ => self.token(129, " "),
+        }
+    }
+
+    fn word(&mut self, text: &str) {
+        let shown = if self.seed.one_in(4) { text.to_ascii_lowercase() } else { text.to_string() };
+        self.token(BARE_WORD, &shown);
+    }
+
+    fn name(&mut self) {
+        let w = self.seed.of(&WORDS);
+        match self.seed.below(8) {
+            0 => self.token(QUOTED, &format!("`{w}`")),
+            1 => self.token(QUOTED, &format!("\"{w}\"")),
+            2 if self.seed.one_in(8) => { let odd = self.seed.of(&["`", "\"", "``", "\"\"", "`a\"", "as"]); self.token(QUOTED, odd) }
+            _ => self.token(BARE_WORD, w),
+        }
+    }
+
+    /// A node over what `inside` makes: from its first token to its last; empty where it has none.
+    fn node(&mut self, kind: u32, inside: impl FnOnce(&mut Self)) {
+        let at = self.f.recs.len();
+        self.f.recs.push(Rec { kind, depth: self.depth, start: NONE, end: 0 });
+        self.depth += 1;
+        inside(self);
+        self.depth -= 1;
+        let ends = |r: &&Rec| r.is_token();
+        if let Some(first) = self.f.recs[at..].iter().find(ends).copied() {
+            self.f.recs[at].start = first.start;
+            self.f.recs[at].end = self.f.recs[at..].iter().rev().find(ends).expect("one").end;
+        }
+    }
+
+    fn expression(&mut self, left: usize) {
+        match self.seed.below(if left == 0 { 4 } else { 9 }) {
+            0 => self.node(47, |q| q.name()),
+            1 => self.node(0, |q| q.token(133, "42")),
+            2 => self.node(0, |q| q.token(134, "'é text'")),
+            3 => self.node(48, |q| { q.name(); q.token(128, "."); q.name() }),
+            4 => self.node(55, |q| {
+                q.expression(left - 1);
+                q.space();
+                let op = q.seed.below(15) as u32;
+                q.token(143 + op, ["+", "-", "*", "/", "%", "=", "!=", "<", ">", "<=", ">=", "<=>", "||", "::", "->"][op as usize]);
+                q.space();
+                q.expression(left - 1)
+            }),
+            5 | 6 => {
+                let kind = 43 + self.seed.below(3) as u32;
+                self.node(kind, |q| {
+                    if q.seed.one_in(2) { q.node(46, |q| q.name()) } else { q.name() }
+                    q.token(137, "(");
+                    q.node(32, |q| {
+                        for i in 0..q.seed.below(4) {
+                            if i > 0 { q.token(136, ","); q.space() }
+                            q.expression(left - 1)
+                        }
+                    });
+                    if !q.seed.one_in(12) { q.token(140, ")") }
+                })
+            }
+            7 => self.node(0, |q| {
+                q.token(138, "[");
+                q.expression(left - 1);
+                let close = if q.seed.one_in(10) { (140, ")") } else { (141, "]") };
+                q.token(close.0, close.1)
+            }),
+            _ => self.subquery(left - 1),
+        }
+    }
+
+    fn subquery(&mut self, left: usize) {
+        self.node(30, |q| { q.token(137, "("); q.select(left); if !q.seed.one_in(15) { q.token(140, ")") } })
+    }
+
+    fn alias(&mut self, kind: u32) {
+        self.space();
+        self.node(kind, |q| { if q.seed.one_in(2) { q.word("AS"); q.space() } if !q.seed.one_in(15) { q.name() } })
+    }
+
+    fn table(&mut self, left: usize) {
+        match self.seed.below(8) {
+            0 if left > 0 => self.node(34, |q| { q.subquery(left - 1) }),
+            1 if left > 0 => self.node(34, |q| { q.table(left - 1); if q.seed.one_in(2) { q.alias(35) } }),
+            2 => self.node(45, |q| { q.name(); q.token(137, "("); q.token(133, "10"); q.token(140, ")") }),
+            _ => self.node(33, |q| { for i in 0..q.seed.of(&[1, 1, 1, 2, 2, 3]) { if i > 0 { q.token(128, ".") } q.name() } }),
+        }
+        if !self.seed.one_in(3) { self.alias(35) }
+    }
+
+    fn join(&mut self, left: usize) {
+        self.node(17, |q| {
+            q.word("LEFT"); q.space(); q.word("JOIN"); q.space(); q.table(left);
+            if q.seed.one_in(6) { q.space(); q.join(left / 2) }
+            q.space();
+            if q.seed.one_in(2) { q.node(28, |q| { q.word("ON"); q.space(); q.expression(left / 2) }) } else { q.word("USING"); q.space(); q.name() }
+        })
+    }
+
+    fn select(&mut self, left: usize) {
+        self.node(4, |q| {
+            if q.seed.one_in(3) {
+                q.node(14, |q| {
+                    q.word("WITH"); q.space();
+                    q.node(31, |q| for i in 0..1 + q.seed.below(3) {
+                        if i > 0 { q.token(136, ","); q.space() }
+                        q.node(29, |q| { q.name(); q.space(); q.word("AS"); q.space(); if left > 0 { q.subquery(left - 1) } else { q.expression(0) } })
+                    })
+                });
+                q.space()
+            }
+            q.node(15, |q| {
+                q.word("SELECT"); q.space();
+                q.node(31, |q| for i in 0..1 + q.seed.below(4) {
+                    if i > 0 { q.token(136, ","); q.space() }
+                    if q.seed.one_in(5) { q.node(32, |q| { q.expression(left / 2); q.alias(36) }) } else { q.expression(left); if q.seed.one_in(2) { q.alias(36) } }
+                })
+            });
+            q.space();
+            if !q.seed.one_in(8) {
+                q.node(16, |q| {
+                    q.word("FROM"); q.space(); q.table(left);
+                    for _ in 0..q.seed.below(3) { q.space(); if q.seed.one_in(3) { q.token(136, ","); q.space(); q.table(left / 2) } else { q.join(left / 2) } }
+                });
+            }
+            if q.seed.one_in(4) { q.space(); q.join(left / 2) }
+            for kind in [18, 19, 20, 21, 22] {
+                if q.seed.one_in(4) { q.space(); q.node(kind, |q| { q.word("WHERE"); q.space(); if q.seed.one_in(8) { q.node(3, |_| ()) } else { q.expression(left / 2) } }) }
+            }
+            if q.seed.one_in(5) { q.space(); q.node(23, |q| { q.word("SETTINGS"); q.space(); q.node(24, |q| { q.token(BARE_WORD, "max_threads"); q.token(148, "="); q.token(133, "8") }) }) }
+            if q.seed.one_in(5) { q.space(); q.node(26, |q| { q.word("FORMAT"); q.space(); q.token(BARE_WORD, "JSON") }) }
+        })
+    }
+
+    fn other_statement(&mut self) {
+        match self.seed.below(3) {
+            0 => self.node(5, |q| { q.word("INSERT"); q.space(); q.word("INTO"); q.space(); q.table(0); q.space(); q.node(27, |q| { q.word("FORMAT"); q.space(); q.token(BARE_WORD, "CSV") }) }),
+            1 => self.node(6, |q| {
+                q.word("CREATE"); q.space(); q.word("TABLE"); q.space();
+                let kind = 50 + q.seed.below(5) as u32;
+                q.node(kind, |q| q.name());
+                q.token(137, "(");
+                q.node(37, |q| {
+                    q.name(); q.space();
+                    q.node(38, |q| q.node(40, |q| { q.token(BARE_WORD, "Array"); q.token(137, "("); q.node(41, |q| q.node(42, |q| q.token(BARE_WORD, "date"))); q.token(140, ")") }));
+                    q.space();
+                    q.node(39, |q| { q.word("CODEC"); q.token(137, "("); q.token(BARE_WORD, "LZ4"); q.token(140, ")") })
+                });
+                q.token(140, ")");
+                q.node(25, |q| { q.word("ENGINE"); q.token(148, "="); q.name() })
+            }),
+            _ => self.node(13, |q| { q.word("DESCRIBE"); q.space(); q.table(1); q.node(49, |q| { q.token(139, "{"); q.name(); q.token(128, ":"); q.node(40, |q| q.token(BARE_WORD, "UInt8")); q.token(142, "}") }) }),
+        }
+    }
+}
+
+fn empty() -> Frame {
+    Frame { source: Vec::new(), recs: Vec::new(), message: Vec::new(), rest: 0 }
+}
+
+pub fn query(seed: &mut Seed, statements: usize) -> Frame {
+    let mut q = Query { f: empty(), depth: 0, seed };
+    q.node(1, |q| {
+        for _ in 0..statements {
+            if q.seed.one_in(6) { q.other_statement() } else { let left = q.seed.below(4); q.select(left) }
+            q.token(128, ";");
+            if q.seed.one_in(2) { q.space() }
+        }
+    });
+    q.f
+}
+
+/// A page of statements of exactly n records: a statement that does not fit is left out, and after some of those spaces fill up.
+pub fn sized_query(seed: &mut Seed, n: usize) -> Frame {
+    let mut q = Query { f: empty(), depth: 0, seed };
+    q.node(1, |q| {
+        let mut misfits = 0;
+        while misfits < 40 {
+            let (records, bytes) = (q.f.recs.len(), q.f.source.len());
+            q.select(3 - misfits / 10);
+            q.token(128, ";");
+            if q.f.recs.len() > n || q.f.source.len() > 60000 {
+                q.f.recs.truncate(records);
+                q.f.source.truncate(bytes);
+                misfits += 1;
+            }
+        }
+        while q.f.recs.len() < n { q.token(129, " ") }
+    });
+    q.f
+}
+
+// ---- random admitted trees
+
+const TEXTS: [&str; 40] = [
+    "AS", "as", "aS", "a", "b", "on", "USING", "ON", ".", ";", ",", "(", ")", "[", "]", "{", "}", "`q`", "\"q\"", "`q\"", "\"q`", "``", "\"\"", "`é`", "select", "Select",
+    "MATERIALIZED", "uncompressed", "id", "x", "é", "表", "🙂", "ı", "ſelect", "UNCOMPRESSEDX", "HIERARCHICAL", "to", "0", "asc",
+];
+
+pub fn random(seed: &mut Seed, most: usize, deepest: u32) -> Frame {
+    let mut f = empty();
+    f.recs.push(Rec { kind: seed.of(&[1, 1, 2, 4, 16, 17, 14, 15, 30, 0]), depth: 0, start: 0, end: 0 });
+    let (mut allowed, mut used) = (1, 1);
+    // half of the deep trees go straight down first, so that depth 63 is reached
+    let straight = deepest == 63 && seed.one_in(2);
+    while f.recs.len() < most && f.source.len() < 60000 {
+        let depth = if straight && f.recs.len() < 70 { allowed.min(deepest) } else { let d = 1 + seed.below(allowed.min(deepest) as usize) as u32; if seed.one_in(3) { d } else { d.max(used) } };
+        used = depth.min(allowed);
+        let depth = used.min(deepest);
+        if seed.below(5) < 2 || straight && f.recs.len() < 64 {
+            let kind = if seed.one_in(3) { seed.below(56) as u32 } else { seed.of(&[14, 15, 16, 17, 29, 30, 31, 32, 33, 33, 34, 35, 35, 36, 43, 4, 28, 46, 55]) };
+            f.recs.push(Rec { kind, depth, start: 0, end: 0 });
+            allowed = depth + 1;
+        } else {
+            for _ in 0..seed.below(3) / 2 { f.source.extend(seed.of(&[" ", "é", "x"]).as_bytes()) }
+            let start = f.source.len() as u32;
+            let kind = if seed.one_in(2) { 128 + seed.below(30) as u32 } else { seed.of(&[BARE_WORD, BARE_WORD, QUOTED, 137, 140]) };
+            let text = if seed.one_in(40) { seed.of(&["`", "\""]) } else if seed.one_in(12) { "" } else { seed.of(&TEXTS) };
+            f.source.extend(text.as_bytes());
+            f.recs.push(Rec { kind, depth, start, end: f.source.len() as u32 });
+            allowed = depth;
+        }
+    }
+    f.source.extend(seed.of(&["", "", " ", "é"]).as_bytes());
+    let len = f.source.len();
+    for r in f.recs.iter_mut().filter(|r| r.kind < 128) {
+        (r.start, r.end) = match seed.below(6) {
+            0 => (NONE, 0),
+            1 => (1, 0),
+            2 => (NONE, NONE),
+            3 => (seed.0 as u32, (seed.0 >> 32) as u32),
+            _ => { let a = seed.below(len + 3); (a as u32, (a + seed.below(len + 3)) as u32) }
+        };
+    }
+    f
+}
+
+// ---- damaged copies: one for each refusal
+
+fn damage(f: &mut Frame, seed: &mut Seed) {
+    let i = seed.below(f.recs.len());
+    let token = (0..f.recs.len()).filter(|&i| f.recs[i].is_token()).last();
+    match seed.below(12) {
+        0 => f.rest = 1 + seed.below(15),
+        1 => { f.recs.clear(); f.rest = seed.of(&[0, 0, 3]) }
+        2 => { let r = *f.recs.last().expect("one"); let n = seed.of(&[4096, 4097, 4200]); while f.recs.len() < n { f.recs.push(Rec { kind: 0, ..r }) } }
+        3 => f.source.resize(seed.of(&[65536, 65537, 70000]), b' '),
+        4 => f.message = vec![b' '; seed.of(&[4096, 4097])],
+        5 => f.recs[i].kind = seed.of(&[56, 100, 127, 158, 255, 256, 257, 131 + 256, NONE]),
+        6 => f.recs[i].depth = seed.of(&[0, 1, 2, 3, 63, 64, 65, 256, NONE]),
+        7 => f.recs[0].kind = BARE_WORD,
+        8 => {
+            let last = seed.of(&[62, 63, 64, 65]);
+            f.recs.truncate(1);
+            for d in 1..=last { f.recs.push(Rec { kind: if seed.one_in(200) { BARE_WORD } else { 0 }, depth: d, start: 0, end: 0 }) }
+        }
+        9 => { if let Some(i) = token { f.recs[i].end = f.source.len() as u32 + seed.below(3) as u32 } }
+        10 => { f.recs[i].start = seed.below(f.source.len() + 2) as u32; f.recs[i].end = seed.below(f.source.len() + 2) as u32 }
+        _ => { f.recs[i].start = f.recs[i].start.wrapping_add(seed.of(&[1, NONE, 2])) }
+    }
+}

@@ -1,0 +1,117 @@
+//! The comparison with the Rust.
+//!   oracle compare FRAMES SEED [FLIP]                       compares; exit 1 at a difference. FLIP falsifies one of our answers (1 to 20)
+//!   oracle measure QUESTION SIDE RECORDS DEPTH REPEATS      asks one side REPEATS times, for an instruction counter around it
+mod compare;
+mod desk;
+mod frames;
+mod rust;
+mod text {
+    include!(env!("ORACLE_TEXT"));
+}
+pub use text::*;
+
+use compare::{difference, reduced, Tally, FLIP, FLIPS};
+use frames::{frame, Seed, Sort, SORTS};
+use std::sync::atomic::Ordering;
+
+/// How many frames of each sort in a round of 100: a large one costs as much as hundreds of small ones.
+fn sort_of(i: usize) -> Sort {
+    match i % 100 {
+        0..=39 => Sort::Query,
+        40..=74 => Sort::Random,
+        75..=79 => Sort::Deep,
+        99 if i % 1000 == 99 => Sort::Large,
+        _ => Sort::Damaged,
+    }
+}
+
+fn compare(frames: usize, seed: u64) -> bool {
+    let mut agreed = [0; 5];
+    let mut tally = Tally::default();
+    for i in 0..frames {
+        let sort = sort_of(i);
+        let mut s = Seed((seed << 32 | i as u64).wrapping_mul(0x9E3779B97F4A7C15) | 1);
+        let f = frame(sort, &mut s);
+        if let Err(first) = difference(&f, &mut tally) {
+            let small = reduced(f);
+            println!("frame {i} of seed {seed} ({sort:?}) differs: {first}");
+            println!("the smallest: {}", difference(&small, &mut Tally::default()).expect_err("still"));
+            println!("source {:?}\nmessage {:?}, {} bytes behind the records", String::from_utf8_lossy(&small.source), String::from_utf8_lossy(&small.message), small.rest);
+            for (i, r) in small.recs.iter().enumerate() {
+                println!("{i}: kind {} depth {} {} {} {:?}", r.kind, r.depth, r.start, r.end, String::from_utf8_lossy(small.text(i)));
+            }
+            return false;
+        }
+        agreed[SORTS.iter().position(|&x| x == sort).expect("one")] += 1;
+    }
+    for (sort, n) in SORTS.iter().zip(agreed) {
+        println!("{n} frames {sort:?} agreed");
+    }
+    println!("{} of them asked the Rust; {} lists with {} entries, each in five rooms", tally.rust_asked, tally.lists, tally.entries);
+    println!("the Rust stopped at a lone quote mark {} times", tally.stopped);
+    println!("refusals by number: {:?}", &tally.refused[1..]);
+    println!("contexts that the Rust gave, not yet compared: {:?}", tally.contexts);
+    true
+}
+
+/// Trees for measuring: statements as people write them, or one that goes to the depth asked for.
+fn measured(records: usize, depth: u32) -> frames::Frame {
+    let mut seed = Seed(20261115);
+    if depth < 63 { frames::sized_query(&mut seed, records) } else { frames::random(&mut seed, records, depth) }
+}
+
+fn measure(question: &str, side: &str, records: usize, depth: u32, repeats: usize) -> usize {
+    let mut f = measured(records, depth);
+    for i in rust::lone_quotes(&f) {
+        f.source[f.recs[i].start as usize] = b'x';
+    }
+    if question == "shape" {
+        println!("{} records, {} tokens, deepest {}", f.recs.len(), f.recs.iter().filter(|r| r.is_token()).count(), f.recs.iter().map(|r| r.depth).max().unwrap_or(0));
+        return 0;
+    }
+    let table = f.table();
+    let asked = rust::Asked::new(&f).expect("UTF-8");
+    let mut out = vec![0; 56 * records];
+    let lists: &[desk::List] = match question {
+        "classes" => &[desk::List::Classes],
+        "openers" => &[desk::List::Openers],
+        "scope" => &desk::SCOPE,
+        "with" => &desk::SCOPE[..1],
+        "aliases" => &desk::SCOPE[1..2],
+        "columns" => &desk::SCOPE[2..3],
+        "refs" => &desk::SCOPE[3..],
+        "check" => &[],
+        _ => panic!("classes, openers, scope, with, aliases, columns, refs, check or shape"),
+    };
+    let mut sum = 0;
+    for _ in 0..repeats {
+        match side {
+            "rust" => sum += asked.measure(lists[0]),
+            "ours" if lists.is_empty() => sum += desk::check(std::hint::black_box(&table), &f.source).1 as usize,
+            "ours" => for &q in lists { sum += desk::list(q, std::hint::black_box(&table), &f.source, 0, &mut out).1 as usize },
+            _ => panic!("ours or rust"),
+        }
+    }
+    sum
+}
+
+fn main() {
+    // a stop of the Rust is caught and counted; it need not be printed
+    std::panic::set_hook(Box::new(|p| if !rust::ASKING.load(Ordering::Relaxed) { eprintln!("{p}") }));
+    let args: Vec<String> = std::env::args().skip(1).collect();
+    let number = |i: usize, or: usize| args.get(i).map_or(or, |a| a.parse().expect("a number"));
+    let done = match args.first().map(String::as_str) {
+        Some("compare") => {
+            let flip = number(3, 0);
+            assert!(flip <= FLIPS, "no such answer");
+            FLIP.store(flip, Ordering::Relaxed);
+            compare(number(1, 2000), number(2, 1) as u64)
+        }
+        Some("measure") => {
+            println!("{}", measure(&args[1], &args[2], number(3, 64), number(4, 10) as u32, number(5, 1)));
+            true
+        }
+        _ => false,
+    };
+    std::process::exit(!done as i32);
+}

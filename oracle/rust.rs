@@ -1,0 +1,351 @@
+//! The Rust's answers, as our questions give them. A name comes back as a String; where it stands is found by a second run of the same
+//! function over a twin, whose token texts tell the records apart, and the first run's text is compared with the bytes at that place.
+use crate::desk::List;
+use crate::frames::{Frame, Rec, BARE_WORD, NONE, QUOTED, TABLE_IDENTIFIER};
+use crate::text::analysis::cursor_context::{cursor_context, CursorContext};
+use crate::text::analysis::scope::{build_scope, find_enclosing_statement, NameBinding, QueryScope};
+use crate::text::diagnostics::bracket_matching;
+use crate::text::diagnostics::types::{Diagnostic, Severity};
+use crate::text::lexer::token::Token;
+use crate::text::lsp::semantic_tokens;
+use crate::text::parser::syntax_kind::SyntaxKind::{self, *};
+use crate::text::parser::syntax_tree::{SyntaxChild, SyntaxTree};
+use std::panic::{catch_unwind, AssertUnwindSafe};
+use std::sync::atomic::{AtomicBool, Ordering};
+
+/// Is the Rust at work where it may stop?
+pub static ASKING: AtomicBool = AtomicBool::new(false);
+
+/// Document 01's numbers of the nodes, from 1 on.
+const NODES: [SyntaxKind; 55] = [
+    File, QueryList, Error, SelectStatement, InsertStatement, CreateStatement, AlterStatement, DeleteStatement, UpdateStatement, DropStatement,
+    ShowStatement, ExplainStatement, DescribeStatement, WithClause, SelectClause, FromClause, JoinClause, PrewhereClause, WhereClause, GroupByClause,
+    HavingClause, OrderByClause, SettingsClause, SettingList, EngineClause, FormatClause, InsertFormatClause, JoinConstraint, WithExpressionItem,
+    SubqueryExpression, ColumnList, ExpressionList, TableIdentifier, TableExpression, TableAlias, ColumnAlias, ColumnDefinition,
+    ColumnTypeDefinition, ColumnCodec, DataType, DataTypeParameters, NestedDataType, FunctionCall, AggregateFunction, TableFunction, Identifier,
+    ColumnReference, QualifiedName, QueryParameterExpression, DatabaseDefinition, TableDefinition, ViewDefinition, MaterializedViewDefinition,
+    DictionaryDefinition, Expression,
+];
+
+/// Of the tokens, from 129 on.
+const TOKENS: [SyntaxKind; 29] = [
+    Whitespace, Comment, BareWord, QuotedIdentifier, Number, StringToken, HereDoc, Comma, OpeningRoundBracket, OpeningSquareBracket,
+    OpeningCurlyBrace, ClosingRoundBracket, ClosingSquareBracket, ClosingCurlyBrace, Plus, Minus, Star, Slash, Percent, Equals, NotEquals, Less,
+    Greater, LessOrEquals, GreaterOrEquals, Spaceship, Concatenation, DoubleColon, Arrow,
+];
+
+/// Kinds that the paper folds into 0 and 128: which of them stands for a record does not matter, so they take turns.
+const OTHER_NODES: [SyntaxKind; 8] =
+    [LimitClause, ArrayJoinClause, TruncateStatement, CaseExpression, BinaryExpression, JoinType, SettingItem, FunctionDefinition];
+const OTHER_TOKENS: [SyntaxKind; 6] = [Dot, Semicolon, Colon, QuestionMark, ErrorToken, EndOfStream];
+
+fn kind_of(r: &Rec, i: usize) -> SyntaxKind {
+    match r.kind {
+        0 => OTHER_NODES[i % OTHER_NODES.len()],
+        128 => OTHER_TOKENS[i % OTHER_TOKENS.len()],
+        k if k < 128 => NODES[k as usize - 1],
+        k => TOKENS[k as usize - 129],
+    }
+}
+
+/// The tree of an admitted table.
+pub fn tree_of(recs: &[Rec]) -> SyntaxTree {
+    fn below(recs: &[Rec], i: &mut usize) -> SyntaxTree {
+        let r = recs[*i];
+        let mut tree = SyntaxTree { kind: kind_of(&r, *i), children: Vec::new(), start: r.start, end: r.end };
+        *i += 1;
+        while *i < recs.len() && recs[*i].depth > r.depth {
+            let c = recs[*i];
+            if c.is_token() {
+                tree.children.push(SyntaxChild::Token(Token::new(kind_of(&c, *i), c.start, c.end)));
+                *i += 1;
+            } else {
+                tree.children.push(SyntaxChild::Tree(below(recs, i)));
+            }
+        }
+        tree
+    }
+    below(recs, &mut 0)
+}
+
+/// The nodes of a tree with their record numbers.
+fn nodes(tree: &SyntaxTree) -> Vec<(usize, &SyntaxTree)> {
+    fn go<'a>(tree: &'a SyntaxTree, next: &mut usize, out: &mut Vec<(usize, &'a SyntaxTree)>) {
+        out.push((*next, tree));
+        *next += 1;
+        for child in &tree.children {
+            match child {
+                SyntaxChild::Token(_) => *next += 1,
+                SyntaxChild::Tree(t) => go(t, next, out),
+            }
+        }
+    }
+    let mut out = Vec::new();
+    go(tree, &mut 0, &mut out);
+    out
+}
+
+pub fn node_at(tree: &SyntaxTree, record: usize) -> &SyntaxTree {
+    nodes(tree).into_iter().find(|n| n.0 == record).expect("a node").1
+}
+
+/// A frame as the Rust gets it, with its twins.
+pub struct Asked<'a> {
+    frame: &'a Frame,
+    source: &'a str,
+    tree: SyntaxTree,
+    twin: Twin,
+}
+
+/// Node spans are the record's number twice. Token texts spell theirs, in the quote marks that they had; a bareword AS stays what it is,
+/// but in a table's name, where each word is a part.
+struct Twin {
+    source: String,
+    recs: Vec<Rec>,
+    tree: SyntaxTree,
+}
+
+fn quote(c: u8) -> bool {
+    c == b'`' || c == b'"'
+}
+
+impl Twin {
+    fn of(frame: &Frame) -> Twin {
+        let mut source = String::new();
+        let mut recs = frame.recs.clone();
+        let mut parents: Vec<u32> = Vec::new();
+        for i in 0..recs.len() {
+            let r = frame.recs[i];
+            parents.truncate(r.depth as usize);
+            if !r.is_token() {
+                parents.push(r.kind);
+                recs[i].start = i as u32;
+                recs[i].end = i as u32;
+                continue;
+            }
+            let text = frame.text(i);
+            recs[i].start = source.len() as u32;
+            if r.kind == BARE_WORD && text.eq_ignore_ascii_case(b"AS") && parents.last() != Some(&TABLE_IDENTIFIER) {
+                source.push_str("AS");
+            } else {
+                if text.len() > 1 && quote(text[0]) {
+                    source.push(text[0] as char);
+                }
+                source.push_str(&format!("t{i}"));
+                if text.len() > 1 && quote(text[text.len() - 1]) {
+                    source.push(text[text.len() - 1] as char);
+                }
+            }
+            recs[i].end = source.len() as u32;
+        }
+        let tree = tree_of(&recs);
+        Twin { source, recs, tree }
+    }
+
+    /// Where a name of the twin stands in the frame: its token, and how much of the token's text was cut at either end.
+    fn place(&self, frame: &Frame, name: &str, true_name: &str) -> Result<(u32, u32), String> {
+        let digits: String = name.chars().filter(|c| c.is_ascii_digit()).collect();
+        let i: usize = digits.parse().map_err(|_| format!("the twin's name {name:?} spells no record"))?;
+        let text = &self.source[self.recs[i].start as usize..self.recs[i].end as usize];
+        let cut = text.find(name).ok_or(format!("the twin's name {name:?} is not in {text:?}"))?;
+        let range = (frame.recs[i].start + cut as u32, frame.recs[i].end - (text.len() - cut - name.len()) as u32);
+        let there = frame.source.get(range.0 as usize..range.1 as usize);
+        if there != Some(true_name.as_bytes()) {
+            return Err(format!("the Rust's name {true_name:?} is not what stands at {range:?}: {there:?}"));
+        }
+        Ok(range)
+    }
+}
+
+/// What the Rust said, or that it stopped.
+pub enum Said<T> {
+    Answer(T),
+    Stopped,
+}
+
+impl<'a> Asked<'a> {
+    /// The source must be UTF-8, and each token's ends between characters.
+    pub fn new(frame: &'a Frame) -> Option<Asked<'a>> {
+        let source = std::str::from_utf8(&frame.source).ok()?;
+        let whole = |r: &Rec| !r.is_token() || source.is_char_boundary(r.start as usize) && source.is_char_boundary(r.end as usize);
+        if !frame.recs.iter().all(whole) {
+            return None;
+        }
+        Some(Asked { frame, source, tree: tree_of(&frame.recs), twin: Twin::of(frame) })
+    }
+
+    pub fn classes(&self) -> Vec<Vec<u32>> {
+        let mut out = Vec::new();
+        semantic_tokens::probe(&self.tree, self.source, &mut out);
+        out.into_iter().map(|(a, b, c)| vec![a, b, c]).collect()
+    }
+
+    /// The twin for brackets: each token's span is its own number, since only the span comes back.
+    fn numbered(&self) -> SyntaxTree {
+        let mut recs = self.frame.recs.clone();
+        for (i, r) in recs.iter_mut().enumerate() {
+            (r.start, r.end) = (i as u32, i as u32);
+        }
+        tree_of(&recs)
+    }
+
+    fn same_span(&self, record: usize, span: (usize, usize)) -> Result<u32, String> {
+        let r = self.frame.recs[record];
+        if (r.start as usize, r.end as usize) == span { Ok(record as u32) } else { Err(format!("bracket {record} is not at {span:?}")) }
+    }
+
+    pub fn openers(&self) -> Result<Vec<Vec<u32>>, String> {
+        let spans = bracket_matching::probe(&self.tree);
+        let records = bracket_matching::probe(&self.numbered());
+        if spans.len() != records.len() {
+            return Err("the twin has other openers".into());
+        }
+        records.iter().zip(spans).map(|(r, s)| Ok(vec![self.same_span(r.0, s)?])).collect()
+    }
+
+    /// The opener's record, or 4294967295.
+    pub fn hint(&self, message: &str) -> Result<u32, String> {
+        let ask = |tree: &SyntaxTree| {
+            let d = Diagnostic { message: message.into(), range: (0, 0), severity: Severity::Error, code: None, suggestion: None, related: Vec::new() };
+            let mut all = [d];
+            bracket_matching::enrich(&mut all, tree);
+            all[0].related.iter().map(|r| r.range).collect::<Vec<_>>()
+        };
+        match (ask(&self.tree).as_slice(), ask(&self.numbered()).as_slice()) {
+            ([], []) => Ok(NONE),
+            ([span], [record]) => self.same_span(record.0, *span),
+            other => Err(format!("hints {other:?}")),
+        }
+    }
+
+    /// The four lists of a root, in the order of `desk::SCOPE`.
+    pub fn scope(&self, root: usize) -> Said<Result<[Vec<Vec<u32>>; 4], String>> {
+        let node = node_at(&self.tree, root);
+        ASKING.store(true, Ordering::Relaxed);
+        let run = catch_unwind(AssertUnwindSafe(|| build_scope(node, self.source)));
+        ASKING.store(false, Ordering::Relaxed);
+        let Ok(real) = run else { return Said::Stopped };
+        let twin = build_scope(node_at(&self.twin.tree, root), &self.twin.source);
+        Said::Answer(self.ranges(&real, &twin))
+    }
+
+    fn ranges(&self, real: &QueryScope, twin: &QueryScope) -> Result<[Vec<Vec<u32>>; 4], String> {
+        Ok([
+            self.bindings(&real.ctes, &twin.ctes)?,
+            self.bindings(&real.table_aliases, &twin.table_aliases)?,
+            self.bindings(&real.column_aliases, &twin.column_aliases)?,
+            self.references(real, twin)?,
+        ])
+    }
+
+    fn bindings(&self, real: &[NameBinding], twin: &[NameBinding]) -> Result<Vec<Vec<u32>>, String> {
+        if real.len() != twin.len() {
+            return Err("the twin has another number of bindings".into());
+        }
+        let one = |(r, t): (&NameBinding, &NameBinding)| {
+            let name = self.twin.place(self.frame, &t.name, &r.name)?;
+            let definition = self.frame.recs[t.definition_range.0 as usize];
+            if (definition.start, definition.end) != r.definition_range {
+                return Err("the twin has another definition".to_string());
+            }
+            Ok(vec![r.range.0, r.range.1, name.0, name.1, definition.start, definition.end])
+        };
+        real.iter().zip(twin).map(one).collect()
+    }
+
+    fn references(&self, real: &QueryScope, twin: &QueryScope) -> Result<Vec<Vec<u32>>, String> {
+        if real.table_refs.len() != twin.table_refs.len() {
+            return Err("the twin has another number of references".into());
+        }
+        let mut out = Vec::new();
+        for (r, t) in real.table_refs.iter().zip(&twin.table_refs) {
+            let mut row = vec![t.range.0];
+            let node = self.frame.recs[t.range.0 as usize];
+            if (node.start, node.end) != r.range {
+                return Err("the twin has another reference".into());
+            }
+            for pair in [(&r.database, &t.database), (&Some(r.table.clone()), &Some(t.table.clone())), (&r.alias, &t.alias)] {
+                let range = match pair {
+                    (None, None) => (NONE, NONE),
+                    (Some(a), Some(b)) => self.twin.place(self.frame, b, a)?,
+                    _ => return Err("the twin's reference has other parts".into()),
+                };
+                row.extend([range.0, range.1]);
+            }
+            out.push(row);
+        }
+        Ok(out)
+    }
+
+    /// The enclosing statement's record, or 4294967295.
+    pub fn statement(&self, offset: u32) -> u32 {
+        match find_enclosing_statement(&self.tree, offset) {
+            None => NONE,
+            Some(s) => nodes(&self.tree).iter().find(|n| std::ptr::eq(n.1, s)).expect("a node").0 as u32,
+        }
+    }
+
+    /// Context, name range, argument index. Token ends do not matter to the cursor, only texts and starts: in this twin a token's length tells
+    /// its record, but `.`, `;`, ON and USING keep their text. A name that is one of those is known by its text alone.
+    pub fn context(&self, offset: u32) -> Result<[u32; 4], String> {
+        let mut source = vec![b'x'; self.frame.source.len() + 2 * self.frame.recs.len() + 8];
+        let mut recs = self.frame.recs.clone();
+        for i in 0..recs.len() {
+            let text = self.frame.text(i);
+            let kept = recs[i].is_token() && (text == b"." || text == b";" || text.eq_ignore_ascii_case(b"ON") || text.eq_ignore_ascii_case(b"USING"));
+            if kept {
+                source[recs[i].start as usize..recs[i].end as usize].copy_from_slice(text);
+            } else if recs[i].is_token() {
+                recs[i].end = recs[i].start + 8 + i as u32;
+            }
+        }
+        let real = cursor_context(&self.tree, self.source, offset);
+        let twin = cursor_context(&tree_of(&recs), std::str::from_utf8(&source).expect("ASCII"), offset);
+        let name = |a: &str, b: &str| {
+            if b.len() < 8 {
+                let i = (0..recs.len()).find(|&i| recs[i].is_token() && self.frame.text(i) == a.as_bytes()).ok_or("no such text")?;
+                return Ok((self.frame.recs[i].start, self.frame.recs[i].end));
+            }
+            let r = self.frame.recs[b.len() - 8];
+            if self.frame.text(b.len() - 8) == a.as_bytes() { Ok((r.start, r.end)) } else { Err(format!("the Rust's name {a:?} is not record {}", b.len() - 8)) }
+        };
+        use CursorContext as C;
+        let plain = |n| Ok([n, NONE, NONE, 0]);
+        match (&real, &twin) {
+            (C::SelectExpression, C::SelectExpression) => plain(0),
+            (C::TableReference { database_prefix: None }, C::TableReference { database_prefix: None }) => plain(1),
+            (C::TableReference { database_prefix: Some(a) }, C::TableReference { database_prefix: Some(b) }) => name(a, b).map(|r| [2, r.0, r.1, 0]),
+            (C::ColumnOfTable { qualifier: a }, C::ColumnOfTable { qualifier: b }) => name(a, b).map(|r| [3, r.0, r.1, 0]),
+            (C::Expression, C::Expression) => plain(4),
+            (C::SettingName, C::SettingName) => plain(5),
+            (C::EngineName, C::EngineName) => plain(6),
+            (C::FormatName, C::FormatName) => plain(7),
+            (C::DataType, C::DataType) => plain(8),
+            (C::CodecName, C::CodecName) => plain(9),
+            (C::FunctionArgument { function_name: a, argument_index: i }, C::FunctionArgument { function_name: b, argument_index: j }) if i == j => {
+                if b.is_empty() { Ok([10, NONE, NONE, *i as u32]) } else { name(a, b).map(|r| [10, r.0, r.1, *i as u32]) }
+            }
+            (C::StatementStart, C::StatementStart) => plain(11),
+            (C::Unknown, C::Unknown) => plain(12),
+            other => Err(format!("contexts {other:?}")),
+        }
+    }
+
+    /// For measuring: the Rust's own functions on the tree, with nothing around them.
+    pub fn measure(&self, q: List) -> usize {
+        match q {
+            List::Classes => {
+                let mut out = Vec::new();
+                semantic_tokens::probe(&self.tree, self.source, &mut out);
+                out.len()
+            }
+            List::Openers => bracket_matching::probe(&self.tree).len(),
+            _ => build_scope(&self.tree, self.source).table_refs.len(),
+        }
+    }
+}
+
+/// The kinds of token whose name is unquoted where it stands below an item or an alias.
+pub fn lone_quotes(frame: &Frame) -> Vec<usize> {
+    (0..frame.recs.len()).filter(|&i| frame.recs[i].kind == QUOTED && frame.text(i).len() == 1 && quote(frame.text(i)[0])).collect()
+}
