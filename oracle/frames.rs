@@ -84,10 +84,13 @@ pub fn frame(sort: Sort, seed: &mut Seed) -> Frame {
             let deepest = seed.of(&[3, 6, 12]);
             random(seed, most, deepest)
         }
-        Sort::Deep => random(seed, 200, 63),
+        Sort::Deep => if seed.one_in(2) { random(seed, 200, 63) } else { page(seed, 260, true) },
         Sort::Large => {
             let n = seed.of(&[1024, 4096]);
-            if seed.one_in(2) { sized_query(seed, n) } else { random(seed, n, 63) }
+            match seed.below(4) {
+                0 | 1 => random(seed, n, 63),
+                k => page(seed, n, k == 3),
+            }
         }
         Sort::Damaged => {
             let mut f = if seed.one_in(2) { query(seed, 1) } else { random(seed, 20, 8) };
@@ -258,6 +261,28 @@ impl Query<'_> {
         })
     }
 
+    /// A query over a query over a query, as deep as a table may be.
+    fn nested(&mut self) {
+        self.node(4, |q| {
+            q.node(15, |q| { q.word("SELECT"); q.space(); q.node(31, |q| { if q.depth > 58 { q.well() } else { q.node(47, |q| q.name()) } q.alias(36) }) });
+            q.space();
+            q.node(16, |q| {
+                q.word("FROM"); q.space();
+                if q.depth > 58 {
+                    q.node(33, |q| q.name());
+                } else {
+                    q.node(34, |q| q.node(30, |q| { q.token(137, "("); q.nested(); q.token(140, ")") }));
+                }
+                q.alias(35)
+            })
+        })
+    }
+
+    /// An expression in an expression, down to the last depth that there is.
+    fn well(&mut self) {
+        self.node(55, |q| if q.depth < 63 { q.well() } else { q.name() })
+    }
+
     fn other_statement(&mut self) {
         match self.seed.below(3) {
             0 => self.node(5, |q| { q.word("INSERT"); q.space(); q.word("INTO"); q.space(); q.table(0); q.space(); q.node(27, |q| { q.word("FORMAT"); q.space(); q.token(BARE_WORD, "CSV") }) }),
@@ -297,13 +322,13 @@ pub fn query(seed: &mut Seed, statements: usize) -> Frame {
 }
 
 /// A page of statements of exactly n records: a statement that does not fit is left out, and after some of those spaces fill up.
-pub fn sized_query(seed: &mut Seed, n: usize) -> Frame {
+pub fn page(seed: &mut Seed, n: usize, deep: bool) -> Frame {
     let mut q = Query { f: empty(), depth: 0, seed };
     q.node(1, |q| {
         let mut misfits = 0;
-        while misfits < 40 {
+        while misfits < 60 {
             let (records, bytes) = (q.f.recs.len(), q.f.source.len());
-            q.select(3 - misfits / 10);
+            if deep && misfits < 20 { q.nested() } else { let left = q.seed.below(4 - misfits / 20); q.select(left) }
             q.token(128, ";");
             if q.f.recs.len() > n || q.f.source.len() > 60000 {
                 q.f.recs.truncate(records);

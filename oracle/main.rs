@@ -54,14 +54,19 @@ fn compare(frames: usize, seed: u64) -> bool {
     true
 }
 
-/// Trees for measuring: statements as people write them, or one that goes to the depth asked for.
-fn measured(records: usize, depth: u32) -> frames::Frame {
-    let mut seed = Seed(20261115);
-    if depth < 63 { frames::sized_query(&mut seed, records) } else { frames::random(&mut seed, records, depth) }
+/// A page for measuring: statements as people write them, or queries over queries to depth 63. It has few spaces that only fill it up, and the
+/// statements as people write them have a table for every hundred records.
+fn page(records: usize, deep: bool) -> frames::Frame {
+    let fits = |f: &frames::Frame| {
+        let filling = f.recs.iter().rev().take_while(|r| r.kind == 129).count();
+        let tables = f.recs.iter().filter(|r| r.kind == frames::TABLE_IDENTIFIER).count();
+        filling <= records / 8 && (deep || tables >= records / 100)
+    };
+    (1..200).map(|seed| frames::page(&mut Seed(seed), records, deep)).find(fits).expect("one")
 }
 
 fn measure(question: &str, side: &str, records: usize, depth: u32, repeats: usize) -> usize {
-    let mut f = measured(records, depth);
+    let mut f = page(records, depth == 63);
     for i in rust::lone_quotes(&f) {
         f.source[f.recs[i].start as usize] = b'x';
     }
