@@ -1,6 +1,7 @@
 -- A reply's number tells it apart from every other: two replies that C gets as one number are equal.
 -- Of a reply is asked what its 32-bit fields give: each number is below `half`; that a refusal's number is not 0, which
--- `numbered` proves of document 01's rules; and that a hint names a record below `none`, as every record of a table is.
+-- `numbered` proves of document 01's rules; and that a hint or a statement names a record below `none`, as
+-- every record of a table is.
 use Prim.Native.Nat.{ℕ, zero, suc, _<_}
 use mathlib.Core.Path.{_≡_, refl}
 use mathlib.Core.Bool.{Bool, true, false, cond}
@@ -16,7 +17,11 @@ use Rattle.scope.specs.declared.bracket_matching.Hint.{Hint}
 use Rattle.scope.specs.declared.bracket_matching.Hint.the-variants.{Opener, NoOpener}
 use Rattle.scope.specs.declared.bracket_matching.HintReply.{HintReply}
 use Rattle.scope.specs.declared.bracket_matching.HintReply.the-variants.{Hinted, Refused as Unhinted}
-use Rattle.desk.specs.Reply.{half, none, packed, verdictReply, listReply, hintRecord, hintReply}
+use Rattle.scope.specs.declared.scope.StatementReply.{StatementReply}
+use Rattle.scope.specs.declared.scope.StatementReply.the-variants.{Statement, NoStatement, Refused as Unstated}
+use Rattle.cursor.specs.declared.scope_at_cursor.RootReply.{RootReply}
+use Rattle.cursor.specs.declared.scope_at_cursor.RootReply.the-variants.{Root, Refused as Unrooted}
+use Rattle.desk.specs.Reply.{half, none, packed, verdictReply, listReply, hintRecord, hintReply, statementNumber, rootNumber}
 
 -- the halves of a number come back
 pub halves : (a b c d : ℕ) → a < half → c < half → packed a b ≡ packed c d → (a ≡ c) × (b ≡ d)
@@ -40,6 +45,15 @@ unfoldable pub Hints : HintReply → Type 0
 Hints (Hinted (Opener i)) = i < none
 Hints (Hinted NoOpener) = 0 < none
 Hints (Unhinted k d) = Numbers k d
+
+unfoldable pub Statements : StatementReply → Type 0
+Statements (Statement i) = i < none
+Statements NoStatement = 0 < none
+Statements (Unstated k d) = Numbers k d
+
+unfoldable pub Roots : RootReply → Type 0
+Roots (Root i) = i < half
+Roots (Unrooted k d) = Numbers k d
 
 pub verdict-apart : (v w : Verdict) → Verdicts v → Verdicts w → verdictReply v ≡ verdictReply w → v ≡ w
 unfolding Verdicts verdictReply
@@ -72,6 +86,31 @@ hint-apart (Hinted NoOpener) (Unhinted k d) p q e = absurd (omega arith)
 hint-apart (Unhinted k d) (Hinted (Opener j)) p q e = absurd (omega arith)
 hint-apart (Unhinted k d) (Hinted NoOpener) p q e = absurd (omega arith)
 hint-apart (Unhinted k d) (Unhinted l f) p q e =
+    let s = halves k d l f (p .low) (q .low) e in
+    let s0 : k ≡ l = s .0 in
+    let s1 : d ≡ f = s .1 in cc
+
+pub statement-apart : (v w : StatementReply) → Statements v → Statements w → statementNumber v ≡ statementNumber w → v ≡ w
+unfolding Statements statementNumber
+statement-apart (Statement i) (Statement j) p q e = let s : i ≡ j = omega arith in cc
+statement-apart (Statement i) NoStatement p q e = absurd (omega arith)
+statement-apart (Statement i) (Unstated k d) p q e = absurd (omega arith)
+statement-apart NoStatement (Statement j) p q e = absurd (omega arith)
+statement-apart NoStatement NoStatement p q e = refl
+statement-apart NoStatement (Unstated k d) p q e = absurd (omega arith)
+statement-apart (Unstated k d) (Statement j) p q e = absurd (omega arith)
+statement-apart (Unstated k d) NoStatement p q e = absurd (omega arith)
+statement-apart (Unstated k d) (Unstated l f) p q e =
+    let s = halves k d l f (p .low) (q .low) e in
+    let s0 : k ≡ l = s .0 in
+    let s1 : d ≡ f = s .1 in cc
+
+pub root-apart : (v w : RootReply) → Roots v → Roots w → rootNumber v ≡ rootNumber w → v ≡ w
+unfolding Roots rootNumber
+root-apart (Root i) (Root j) p q e = let s : i ≡ j = omega arith in cc
+root-apart (Root i) (Unrooted k d) p q e = absurd (omega arith)
+root-apart (Unrooted k d) (Root j) p q e = absurd (omega arith)
+root-apart (Unrooted k d) (Unrooted l f) p q e =
     let s = halves k d l f (p .low) (q .low) e in
     let s0 : k ≡ l = s .0 in
     let s1 : d ≡ f = s .1 in cc

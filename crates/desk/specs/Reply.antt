@@ -1,6 +1,7 @@
 -- The replies as C gets them: one number of 64 bits, whose halves `packed` puts together.
 -- Definitions only.
 use Prim.Native.Nat.{ℕ, _+_, _*_}
+use mathlib.Core.List.{List, [], _∷_}
 use Rattle.table.specs.declared.check.Verdict.{Verdict}
 use Rattle.table.specs.declared.check.Verdict.the-variants.{Admitted, Refused}
 use Rattle.table.specs.declared.list.Listed.{Listed}
@@ -9,6 +10,13 @@ use Rattle.scope.specs.declared.bracket_matching.Hint.{Hint}
 use Rattle.scope.specs.declared.bracket_matching.Hint.the-variants.{Opener, NoOpener}
 use Rattle.scope.specs.declared.bracket_matching.HintReply.{HintReply}
 use Rattle.scope.specs.declared.bracket_matching.HintReply.the-variants.{Hinted, Refused as Unhinted}
+use Rattle.scope.specs.declared.scope.StatementReply.{StatementReply}
+use Rattle.scope.specs.declared.scope.StatementReply.the-variants.{Statement, NoStatement, Refused as Unstated}
+use Rattle.cursor.specs.declared.cursor_context.Name.{Name}
+use Rattle.cursor.specs.declared.cursor_context.CursorContext.{CursorContext}
+use Rattle.cursor.specs.Context.{rangeOf, coded}
+use Rattle.cursor.specs.declared.scope_at_cursor.RootReply.{RootReply}
+use Rattle.cursor.specs.declared.scope_at_cursor.RootReply.the-variants.{Root, Refused as Unrooted}
 
 -- how many values a half has
 abbrev pub half : ℕ
@@ -45,3 +53,28 @@ hintRecord NoOpener = none
 unfoldable pub hintReply : HintReply → ℕ
 hintReply (Hinted h) = packed answered (hintRecord h)
 hintReply (Unhinted k d) = packed k d
+
+-- ---- the questions at a cursor
+
+-- an enclosing statement, or none
+unfoldable pub statementNumber : StatementReply → ℕ
+statementNumber (Statement n) = packed answered n
+statementNumber NoStatement = packed answered none
+statementNumber (Unstated k d) = packed k d
+
+-- the cursor's root
+unfoldable pub rootNumber : RootReply → ℕ
+rootNumber (Root n) = packed answered n
+rootNumber (Unrooted k d) = packed k d
+
+-- the numbers of a context in its entry
+abbrev pub codeRow : ℕ → ℕ → ℕ → ℕ → List ℕ
+codeRow number start end index = number ∷ start ∷ end ∷ index ∷ []
+
+-- the same with a name, or none
+abbrev pub nameRow : ℕ → Name → ℕ → List ℕ
+nameRow number name index = codeRow number (rangeOf name .start) (rangeOf name .end) index
+
+-- the entry of a context: its number, its name's range and its argument index
+unfoldable pub contextRow : CursorContext → List ℕ
+contextRow c = codeRow (coded c .number) (coded c .name .start) (coded c .name .end) (coded c .index)

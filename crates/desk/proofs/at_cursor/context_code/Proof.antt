@@ -1,0 +1,46 @@
+use Rattle.cursor.specs.Context.{coded}
+use Rattle.desk.specs.Reply.{contextRow}
+use borrow.Author.Needs.{needs}
+use Rattle.desk.proofs.at_cursor.context_code.Statement.{statement}
+use Rattle.desk.proofs.at_cursor.context_code.Tie as tie
+
+pub context-code-spec : {M : Type 1} → statement M
+context-code-spec =
+    tie.close
+    (tie.spec
+    (λ c. search needs)  -- enum-told
+    (λ c κs. search needs)  -- name-code-requires
+    (λ c. search needs)  -- enum-known-c
+    (λ c κs. search needs)  -- reference-code-requires
+    (λ c. search needs)  -- enum-known-c-2
+    (λ c κs. search needs)  -- name-code-requires-2
+    (λ c. search needs)  -- enum-told-2
+    (λ c κs. search needs)  -- name-code-requires-3
+    (λ c. search needs)  -- enum-told-3
+    (λ c κs. search needs)  -- name-code-requires-4
+    (λ c. search needs)  -- enum-told-4
+    (λ c κs. search needs)  -- name-code-requires-5
+    (λ c. search needs)  -- enum-told-5
+    (λ c κs. search needs)  -- name-code-requires-6
+    (λ c. search needs)  -- enum-told-6
+    (λ c κs. search needs)  -- name-code-requires-7
+    (λ c. search needs)  -- enum-told-7
+    (λ c κs. search needs)  -- name-code-requires-8
+    (λ c. search needs)  -- enum-known-c-3
+    (λ c κs. search needs)  -- name-code-requires-9
+    (λ c. search needs)  -- enum-told-8
+    (λ c κs. search needs)  -- name-code-requires-10
+    (λ c. search needs)  -- enum-told-9
+    (λ c κs. search needs)  -- name-code-requires-11
+    (λ c. rw (c .before .enum-told .given .1) (unfold contextRow coded in c .name-code .ensures))  -- returns
+    (λ c. rw (c .before .before .c .given .1) (c .reference-code .ensures))  -- returns-2
+    (λ c. rw (c .before .before .c2 .given .1) (unfold contextRow coded in c .name-code2 .ensures))  -- returns-3
+    (λ c. rw (c .before .enum-told2 .given .1) (unfold contextRow coded in c .name-code3 .ensures))  -- returns-4
+    (λ c. rw (c .before .enum-told3 .given .1) (unfold contextRow coded in c .name-code4 .ensures))  -- returns-5
+    (λ c. rw (c .before .enum-told4 .given .1) (unfold contextRow coded in c .name-code5 .ensures))  -- returns-6
+    (λ c. rw (c .before .enum-told5 .given .1) (unfold contextRow coded in c .name-code6 .ensures))  -- returns-7
+    (λ c. rw (c .before .enum-told6 .given .1) (unfold contextRow coded in c .name-code7 .ensures))  -- returns-8
+    (λ c. rw (c .before .enum-told7 .given .1) (unfold contextRow coded in c .name-code8 .ensures))  -- returns-9
+    (λ c. rw (c .before .before .c3 .given .1) (unfold contextRow coded in c .name-code9 .ensures))  -- returns-10
+    (λ c. rw (c .before .enum-told8 .given .1) (unfold contextRow coded in c .name-code10 .ensures))  -- returns-11
+    (λ c. rw (c .before .enum-told9 .given .1) (unfold contextRow coded in c .name-code11 .ensures)))  -- returns-12

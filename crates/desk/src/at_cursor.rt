@@ -1,0 +1,214 @@
+// The questions at an offset, for C: the context, the enclosing statement, the cursor's root and its four lists.
+use crate::ANSWERED;
+use crate::NONE;
+use crate::list_reply;
+use crate::packed;
+use cursor::cursor_context::ContextReply;
+use cursor::cursor_context::CursorContext;
+use cursor::cursor_context::Name;
+use cursor::cursor_context::cursor_context;
+use cursor::scope_at_cursor::RootReply;
+use cursor::scope_at_cursor::column_aliases_at;
+use cursor::scope_at_cursor::cursor_root;
+use cursor::scope_at_cursor::table_aliases_at;
+use cursor::scope_at_cursor::table_refs_at;
+use cursor::scope_at_cursor::with_names_at;
+use scope::scope::StatementReply;
+use scope::scope::enclosing_statement;
+use table::list::Listed;
+use table::list::put_entry;
+ghost use mathlib.Core.Path.{_≡_};
+ghost use mathlib.Core.List.{[], _∷_};
+ghost use lib.ListN.{length};
+ghost use Rattle.table.specs.Rules.{rules, verdict};
+ghost use Rattle.table.specs.Lists.{listed, lent};
+ghost use Rattle.scope.specs.ScopeQuestions.{bindingRow, referenceRow, withNames, tableAliases, columnAliases, tableRefs};
+ghost use Rattle.scope.specs.Statement.{enclosingAt, statementReply};
+ghost use Rattle.cursor.specs.declared.cursor_context.CursorContext.the-variants.{TableReference};
+ghost use Rattle.cursor.specs.Context.{contextAt};
+ghost use Rattle.cursor.specs.Root.{rootAt, rootReply};
+ghost use Rattle.desk.specs.Reply.{listReply, statementNumber, rootNumber, codeRow, nameRow, contextRow};
+
+fn statement_number(s: StatementReply) -> u64
+    ensures { λ r. ⌜ r ≡ statementNumber s ⌝ }
+{
+    match s {
+        StatementReply::Statement(n) => packed(ANSWERED, n),
+        StatementReply::NoStatement => packed(ANSWERED, NONE),
+        StatementReply::Refused(k, d) => packed(k, d),
+    }
+}
+
+fn root_number(s: RootReply) -> u64
+    ensures { λ r. ⌜ r ≡ rootNumber s ⌝ }
+{
+    match s {
+        RootReply::Root(n) => packed(ANSWERED, n),
+        RootReply::Refused(k, d) => packed(k, d),
+    }
+}
+
+// The statement that encloses the offset. High half of an answer: its record, or 4294967295 for none.
+#[no_mangle]
+pub extern "C" fn desk_enclosing_statement(table: &[u8], source: &[u8], offset: u32) -> u64
+    ensures { λ r. ⌜ r ≡ statementNumber (statementReply (verdict (now (table .entry)) (length (now (source .entry))) 0) (enclosingAt (now (table .entry)) offset)) ⌝ }
+{
+    statement_number(enclosing_statement(table, source, offset as usize))
+}
+
+// The cursor's root. High half of an answer: its record.
+#[no_mangle]
+pub extern "C" fn desk_cursor_root(table: &[u8], source: &[u8], offset: u32) -> u64
+    ensures { λ r. ⌜ r ≡ rootNumber (rootReply (verdict (now (table .entry)) (length (now (source .entry))) 0) (rootAt (now (table .entry)) offset)) ⌝ }
+{
+    root_number(cursor_root(table, source, offset as usize))
+}
+
+// The WITH names offered at the offset. High half of an answer: the entries written.
+#[no_mangle]
+pub extern "C" fn desk_with_names_at(
+    table: &[u8],
+    source: &[u8],
+    offset: u32,
+    out: &mut [u8],
+) -> u64
+    ensures { λ r. ⌜ (r ≡ listReply (listed (rules (now (table .entry)) (length (now (source .entry))) 0) bindingRow (withNames (now (source .entry)) (now (table .entry)) (rootAt (now (table .entry)) offset)) (now (out .entry))))
+        × (now (out .exit) ≡ lent (rules (now (table .entry)) (length (now (source .entry))) 0) bindingRow (withNames (now (source .entry)) (now (table .entry)) (rootAt (now (table .entry)) offset)) (now (out .entry))) ⌝ }
+{
+    list_reply(with_names_at(table, source, offset as usize, out))
+}
+
+// The table aliases offered at the offset. High half of an answer: the entries written.
+#[no_mangle]
+pub extern "C" fn desk_table_aliases_at(
+    table: &[u8],
+    source: &[u8],
+    offset: u32,
+    out: &mut [u8],
+) -> u64
+    ensures { λ r. ⌜ (r ≡ listReply (listed (rules (now (table .entry)) (length (now (source .entry))) 0) bindingRow (tableAliases (now (source .entry)) (now (table .entry)) (rootAt (now (table .entry)) offset)) (now (out .entry))))
+        × (now (out .exit) ≡ lent (rules (now (table .entry)) (length (now (source .entry))) 0) bindingRow (tableAliases (now (source .entry)) (now (table .entry)) (rootAt (now (table .entry)) offset)) (now (out .entry))) ⌝ }
+{
+    list_reply(table_aliases_at(table, source, offset as usize, out))
+}
+
+// The column aliases offered at the offset. High half of an answer: the entries written.
+#[no_mangle]
+pub extern "C" fn desk_column_aliases_at(
+    table: &[u8],
+    source: &[u8],
+    offset: u32,
+    out: &mut [u8],
+) -> u64
+    ensures { λ r. ⌜ (r ≡ listReply (listed (rules (now (table .entry)) (length (now (source .entry))) 0) bindingRow (columnAliases (now (source .entry)) (now (table .entry)) (rootAt (now (table .entry)) offset)) (now (out .entry))))
+        × (now (out .exit) ≡ lent (rules (now (table .entry)) (length (now (source .entry))) 0) bindingRow (columnAliases (now (source .entry)) (now (table .entry)) (rootAt (now (table .entry)) offset)) (now (out .entry))) ⌝ }
+{
+    list_reply(column_aliases_at(table, source, offset as usize, out))
+}
+
+// The table references offered at the offset. High half of an answer: the entries written.
+#[no_mangle]
+pub extern "C" fn desk_table_refs_at(
+    table: &[u8],
+    source: &[u8],
+    offset: u32,
+    out: &mut [u8],
+) -> u64
+    ensures { λ r. ⌜ (r ≡ listReply (listed (rules (now (table .entry)) (length (now (source .entry))) 0) referenceRow (tableRefs (now (source .entry)) (now (table .entry)) (rootAt (now (table .entry)) offset)) (now (out .entry))))
+        × (now (out .exit) ≡ lent (rules (now (table .entry)) (length (now (source .entry))) 0) referenceRow (tableRefs (now (source .entry)) (now (table .entry)) (rootAt (now (table .entry)) offset)) (now (out .entry))) ⌝ }
+{
+    list_reply(table_refs_at(table, source, offset as usize, out))
+}
+
+// A context's numbers: its own, its name's range and its argument index.
+struct Code {
+    number: usize,
+    start: usize,
+    end: usize,
+    index: usize,
+}
+
+// The start and the end of an absent range.
+const ABSENT: usize = 4294967295;
+
+// How many bytes a context takes.
+const CONTEXT_BYTES: usize = 16;
+
+fn name_code(number: usize, name: Name, index: usize) -> Code
+    ensures { λ r. ⌜ codeRow (r .number) (r .start) (r .end) (r .index) ≡ nameRow number name index ⌝ }
+{
+    match name {
+        Name::Named(r) => Code {
+            number: number,
+            start: r.start,
+            end: r.end,
+            index: index,
+        },
+        Name::Nameless => Code {
+            number: number,
+            start: ABSENT,
+            end: ABSENT,
+            index: index,
+        },
+    }
+}
+
+fn reference_code(prefix: Name) -> Code
+    ensures { λ r. ⌜ codeRow (r .number) (r .start) (r .end) (r .index) ≡ contextRow (TableReference prefix) ⌝ }
+{
+    match prefix {
+        Name::Named(r) => name_code(2, Name::Named(r), 0),
+        Name::Nameless => name_code(1, Name::Nameless, 0),
+    }
+}
+
+fn context_code(c: CursorContext) -> Code
+    ensures { λ r. ⌜ codeRow (r .number) (r .start) (r .end) (r .index) ≡ contextRow c ⌝ }
+{
+    match c {
+        CursorContext::SelectExpression => name_code(0, Name::Nameless, 0),
+        CursorContext::TableReference { database_prefix } => reference_code(database_prefix),
+        CursorContext::ColumnOfTable { qualifier } => name_code(3, Name::Named(qualifier), 0),
+        CursorContext::Expression => name_code(4, Name::Nameless, 0),
+        CursorContext::SettingName => name_code(5, Name::Nameless, 0),
+        CursorContext::EngineName => name_code(6, Name::Nameless, 0),
+        CursorContext::FormatName => name_code(7, Name::Nameless, 0),
+        CursorContext::DataType => name_code(8, Name::Nameless, 0),
+        CursorContext::CodecName => name_code(9, Name::Nameless, 0),
+        CursorContext::FunctionArgument {
+            function_name,
+            argument_index,
+        } => name_code(10, function_name, argument_index),
+        CursorContext::StatementStart => name_code(11, Name::Nameless, 0),
+        CursorContext::Unknown => name_code(12, Name::Nameless, 0),
+    }
+}
+
+fn list_context(c: CursorContext, out: &mut [u8]) -> Listed
+    ensures { λ r. ⌜ (r ≡ listed [] contextRow (c ∷ []) (now (out .entry))) × (now (out .exit) ≡ lent [] contextRow (c ∷ []) (now (out .entry))) ⌝ }
+{
+    let k = context_code(c);
+    if out.len() < CONTEXT_BYTES {
+        return Listed::Refused(7, 1);
+    }
+    let entry = [k.number, k.start, k.end, k.index];
+    put_entry(out, 0, &entry);
+    Listed::Entries(1)
+}
+
+// What is being typed at the offset, as a list of one entry. High half of an answer: 1.
+#[no_mangle]
+pub extern "C" fn desk_cursor_context(
+    table: &[u8],
+    source: &[u8],
+    offset: u32,
+    out: &mut [u8],
+) -> u64
+    ensures { λ r. ⌜ (r ≡ listReply (listed (rules (now (table .entry)) (length (now (source .entry))) 0) contextRow (contextAt (now (source .entry)) (now (table .entry)) offset ∷ []) (now (out .entry))))
+        × (now (out .exit) ≡ lent (rules (now (table .entry)) (length (now (source .entry))) 0) contextRow (contextAt (now (source .entry)) (now (table .entry)) offset ∷ []) (now (out .entry))) ⌝ }
+{
+    match cursor_context(table, source, offset as usize) {
+        ContextReply::Refused(k, d) => packed(k, d),
+        ContextReply::Context(c) => list_reply(list_context(c, out)),
+    }
+}
