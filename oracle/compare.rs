@@ -1,5 +1,5 @@
 //! Both sides on one frame: every reply and every byte of every buffer.
-use crate::desk::{self, List, SCOPE};
+use crate::desk::{self, List, Of, SCOPE};
 use crate::frames::{Frame, NONE};
 use crate::rust::{lone_quotes, Asked, Said};
 use std::sync::atomic::{AtomicUsize, Ordering};
@@ -15,9 +15,10 @@ pub struct Tally {
     pub contexts: [usize; 13],
 }
 
-/// Which of our answers is falsified, to see that it is found: 0 none, 1 the check, 2 the hint, then each list's count, bytes and guard.
+/// Which of our answers is falsified, to see that it is found: 0 none, 1 the check, 2 the hint, 3 the statement,
+/// 4 the cursor's root, then the count, bytes and guard of each list of a table or root, the context, and each list at the cursor.
 pub static FLIP: AtomicUsize = AtomicUsize::new(0);
-pub const FLIPS: usize = 2 + 3 * 6;
+pub const FLIPS: usize = 4 + 3 * 11;
 
 fn flipped(n: usize) -> bool {
     FLIP.load(Ordering::Relaxed) == n
@@ -60,7 +61,7 @@ pub fn refusal(f: &Frame, message: usize) -> Option<(u32, u32)> {
 const GUARD: usize = 24;
 
 /// Asks for a list in a buffer of `room` bytes that has guard bytes on both sides, and compares the reply and all bytes.
-fn ask(q: List, f: &Frame, table: &[u8], root: u32, room: usize, refused: Option<(u32, u32)>, entries: &[Vec<u32>]) -> Result<(), String> {
+fn ask(q: List, f: &Frame, table: &[u8], of: Of, room: usize, refused: Option<(u32, u32)>, entries: &[Vec<u32>]) -> Result<(), String> {
     let mut all: Vec<u8> = (0..GUARD + room + GUARD).map(|i| (i * 37 + 11) as u8).collect();
     let mut expected = all.clone();
     let need = entries.len() * q.width();
@@ -74,29 +75,30 @@ fn ask(q: List, f: &Frame, table: &[u8], root: u32, room: usize, refused: Option
             (0, entries.len() as u32)
         }
     };
-    let mut got = desk::list(q, table, &f.source, root, &mut all[GUARD..GUARD + room]);
-    let flip = 3 + 3 * q as usize;
+    let mut got = desk::list(q, table, &f.source, of, &mut all[GUARD..GUARD + room]);
+    let at_cursor = SCOPE.contains(&q) && matches!(of, Of::Cursor(_));
+    let flip = 5 + 3 * (q as usize + if at_cursor { 5 } else { 0 });
     if flipped(flip) { got.1 ^= 1 }
     if flipped(flip + 1) && got.0 == 0 && got.1 > 0 { all[GUARD + got.1 as usize * q.width() - 1] ^= 1 }
     if flipped(flip + 2) { all[GUARD + room] ^= 1 }
     if got != reply {
-        return Err(format!("{q:?} of root {root} in {room} bytes: ours {got:?}, the Rust {reply:?}; its entries {entries:?}"));
+        return Err(format!("{q:?} of {of:?} in {room} bytes: ours {got:?}, the Rust {reply:?}; its entries {entries:?}"));
     }
     if all != expected {
         let at = (0..all.len()).find(|&i| all[i] != expected[i]).expect("one");
-        return Err(format!("{q:?} of root {root} in {room} bytes: byte {} differs; the Rust's entries {entries:?}", at as i64 - GUARD as i64));
+        return Err(format!("{q:?} of {of:?} in {room} bytes: byte {} differs; the Rust's entries {entries:?}", at as i64 - GUARD as i64));
     }
     Ok(())
 }
 
 /// The same in every room: more than enough, exactly enough, one byte short, none.
-fn in_rooms(q: List, f: &Frame, table: &[u8], root: u32, entries: &[Vec<u32>], tally: &mut Tally) -> Result<(), String> {
+fn in_rooms(q: List, f: &Frame, table: &[u8], of: Of, entries: &[Vec<u32>], tally: &mut Tally) -> Result<(), String> {
     let need = entries.len() * q.width();
     tally.lists += 1;
     tally.entries += entries.len();
     // room for an entry for each record is another way through our code than just enough
     for room in [need + 13, need, need.saturating_sub(1), 0, 56 * f.recs.len()] {
-        ask(q, f, table, root, room, None, entries)?;
+        ask(q, f, table, of, room, None, entries)?;
     }
     Ok(())
 }
@@ -114,11 +116,51 @@ fn offsets(f: &Frame) -> Vec<u32> {
     out
 }
 
-/// The Rust's answers at a cursor. The place for `desk_context` and `desk_statement`: compare their replies with these two.
-fn cursor(rust: &Asked, offset: u32, tally: &mut Tally) -> Result<(), String> {
-    let _statement = rust.statement(offset);
+/// The cursor's root, written anew from document 01: the Rust has no word for it.
+fn root_at(f: &Frame, statement: u32, offset: u32) -> u32 {
+    let holds = |i: usize| !f.recs[i].is_token() && f.recs[i].start <= offset && offset <= f.recs[i].end;
+    let (mut at, mut deepest) = (0, None);
+    loop {
+        if f.recs[at].kind == 30 { deepest = Some(at as u32) }
+        let end = (at + 1..f.recs.len()).find(|&j| f.recs[j].depth <= f.recs[at].depth).unwrap_or(f.recs.len());
+        match (at + 1..end).find(|&j| f.recs[j].depth == f.recs[at].depth + 1 && holds(j)) {
+            Some(child) => at = child,
+            None => return deepest.unwrap_or(if statement == NONE { 0 } else { statement }),
+        }
+    }
+}
+
+/// The four lists of a root, in the order of `SCOPE`; a stop of the Rust is counted.
+fn scope(rust: &Asked, f: &Frame, root: usize, tally: &mut Tally) -> Result<[Vec<Vec<u32>>; 4], String> {
+    match rust.scope(root) {
+        Said::Answer(lists) => lists,
+        Said::Stopped => {
+            tally.stopped += 1;
+            unstopped(f, root)
+        }
+    }
+}
+
+/// Every question at a cursor.
+fn cursor(rust: &Asked, f: &Frame, table: &[u8], offset: u32, tally: &mut Tally) -> Result<(), String> {
+    let statement = rust.statement(offset);
+    let mut ours = desk::statement(table, &f.source, offset);
+    if flipped(3) { ours.1 ^= 1 }
+    if ours != (0, statement) {
+        return Err(format!("statement at {offset}: ours {ours:?}, the Rust {statement}"));
+    }
+    let root = root_at(f, statement, offset);
+    let mut ours = desk::root(table, &f.source, offset);
+    if flipped(4) { ours.1 ^= 1 }
+    if ours != (0, root) {
+        return Err(format!("root at {offset}: ours {ours:?}, by document 01 {root}"));
+    }
     let context = rust.context(offset)?;
     tally.contexts[context[0] as usize] += 1;
+    in_rooms(List::Context, f, table, Of::Cursor(offset), &[context.to_vec()], tally)?;
+    for (q, entries) in SCOPE.into_iter().zip(scope(rust, f, root as usize, tally)?) {
+        in_rooms(q, f, table, Of::Cursor(offset), &entries, tally)?;
+    }
     Ok(())
 }
 
@@ -140,17 +182,22 @@ pub fn difference(f: &Frame, tally: &mut Tally) -> Result<(), String> {
         }
     }
     if refused.is_some() {
-        for q in [List::Classes, List::Openers].iter().chain(&SCOPE) {
-            for root in [0, 1, f.recs.len() as u32] {
-                ask(*q, f, &table, root, 0, refused, &[])?;
-                ask(*q, f, &table, root, 64, refused, &[])?;
+        for q in [List::Classes, List::Openers, List::Context].iter().chain(&SCOPE) {
+            for of in [Of::Root(0), Of::Root(1), Of::Root(f.recs.len() as u32), Of::Cursor(0), Of::Cursor(NONE)] {
+                ask(*q, f, &table, of, 0, refused, &[])?;
+                ask(*q, f, &table, of, 64, refused, &[])?;
+            }
+        }
+        for (name, ours) in [("statement", desk::statement(&table, &f.source, 0)), ("root", desk::root(&table, &f.source, 0))] {
+            if Some(ours) != refused {
+                return Err(format!("{name}: ours {ours:?}, by document 01 {refused:?}"));
             }
         }
         return Ok(());
     }
     for q in SCOPE {
         for root in [f.recs.len(), NONE as usize, f.recs.len() + 4096].into_iter().chain((0..f.recs.len()).filter(|&i| f.recs[i].is_token()).take(2)) {
-            ask(q, f, &table, root as u32, 64, Some((8, 0)), &[])?;
+            ask(q, f, &table, Of::Root(root as u32), 64, Some((8, 0)), &[])?;
         }
     }
     let Some(rust) = Asked::new(f) else { return Ok(()) };
@@ -161,19 +208,15 @@ pub fn difference(f: &Frame, tally: &mut Tally) -> Result<(), String> {
             return Err(format!("hint: ours {hint:?}, the Rust {expected}"));
         }
     }
-    in_rooms(List::Classes, f, &table, 0, &rust.classes(), tally)?;
-    in_rooms(List::Openers, f, &table, 0, &rust.openers()?, tally)?;
+    in_rooms(List::Classes, f, &table, Of::Root(0), &rust.classes(), tally)?;
+    in_rooms(List::Openers, f, &table, Of::Root(0), &rust.openers()?, tally)?;
     for root in roots(f) {
-        let lists = match rust.scope(root) {
-            Said::Answer(lists) => lists?,
-            Said::Stopped => { tally.stopped += 1; unstopped(f, root)? }
-        };
-        for (q, entries) in SCOPE.into_iter().zip(lists) {
-            in_rooms(q, f, &table, root as u32, &entries, tally)?;
+        for (q, entries) in SCOPE.into_iter().zip(scope(&rust, f, root, tally)?) {
+            in_rooms(q, f, &table, Of::Root(root as u32), &entries, tally)?;
         }
     }
     for offset in offsets(f) {
-        cursor(&rust, offset, tally)?;
+        cursor(&rust, f, &table, offset, tally)?;
     }
     Ok(())
 }

@@ -8,6 +8,13 @@ extern "C" {
     fn desk_table_aliases(t: *const u8, tn: usize, s: *const u8, sn: usize, r: u32, o: *mut u8, on: usize) -> u64;
     fn desk_column_aliases(t: *const u8, tn: usize, s: *const u8, sn: usize, r: u32, o: *mut u8, on: usize) -> u64;
     fn desk_table_refs(t: *const u8, tn: usize, s: *const u8, sn: usize, r: u32, o: *mut u8, on: usize) -> u64;
+    fn desk_cursor_context(t: *const u8, tn: usize, s: *const u8, sn: usize, f: u32, o: *mut u8, on: usize) -> u64;
+    fn desk_enclosing_statement(t: *const u8, tn: usize, s: *const u8, sn: usize, f: u32) -> u64;
+    fn desk_cursor_root(t: *const u8, tn: usize, s: *const u8, sn: usize, f: u32) -> u64;
+    fn desk_with_names_at(t: *const u8, tn: usize, s: *const u8, sn: usize, f: u32, o: *mut u8, on: usize) -> u64;
+    fn desk_table_aliases_at(t: *const u8, tn: usize, s: *const u8, sn: usize, f: u32, o: *mut u8, on: usize) -> u64;
+    fn desk_column_aliases_at(t: *const u8, tn: usize, s: *const u8, sn: usize, f: u32, o: *mut u8, on: usize) -> u64;
+    fn desk_table_refs_at(t: *const u8, tn: usize, s: *const u8, sn: usize, f: u32, o: *mut u8, on: usize) -> u64;
 }
 
 /// A question for a list.
@@ -19,6 +26,14 @@ pub enum List {
     TableAliases,
     ColumnAliases,
     TableRefs,
+    Context,
+}
+
+/// What a list is of: a root, or the cursor at an offset. It counts for the scope's lists and the context only.
+#[derive(Clone, Copy, PartialEq, Debug)]
+pub enum Of {
+    Root(u32),
+    Cursor(u32),
 }
 
 pub const SCOPE: [List; 4] = [List::WithNames, List::TableAliases, List::ColumnAliases, List::TableRefs];
@@ -30,6 +45,7 @@ impl List {
             List::Classes => 12,
             List::Openers => 4,
             List::TableRefs => 28,
+            List::Context => 16,
             _ => 24,
         }
     }
@@ -47,18 +63,30 @@ pub fn hint(t: &[u8], s: &[u8], m: &[u8]) -> (u32, u32) {
     halves(unsafe { desk_bracket_hint(t.as_ptr(), t.len(), s.as_ptr(), s.len(), m.as_ptr(), m.len()) })
 }
 
-/// The root counts for the four lists of a scope only.
-pub fn list(q: List, t: &[u8], s: &[u8], root: u32, out: &mut [u8]) -> (u32, u32) {
+pub fn statement(t: &[u8], s: &[u8], offset: u32) -> (u32, u32) {
+    halves(unsafe { desk_enclosing_statement(t.as_ptr(), t.len(), s.as_ptr(), s.len(), offset) })
+}
+
+pub fn root(t: &[u8], s: &[u8], offset: u32) -> (u32, u32) {
+    halves(unsafe { desk_cursor_root(t.as_ptr(), t.len(), s.as_ptr(), s.len(), offset) })
+}
+
+pub fn list(q: List, t: &[u8], s: &[u8], of: Of, out: &mut [u8]) -> (u32, u32) {
     let (tp, tn, sp, sn) = (t.as_ptr(), t.len(), s.as_ptr(), s.len());
     let (op, on) = (out.as_mut_ptr(), out.len());
     halves(unsafe {
-        match q {
-            List::Classes => desk_token_classes(tp, tn, sp, sn, op, on),
-            List::Openers => desk_openers_left(tp, tn, sp, sn, op, on),
-            List::WithNames => desk_with_names(tp, tn, sp, sn, root, op, on),
-            List::TableAliases => desk_table_aliases(tp, tn, sp, sn, root, op, on),
-            List::ColumnAliases => desk_column_aliases(tp, tn, sp, sn, root, op, on),
-            List::TableRefs => desk_table_refs(tp, tn, sp, sn, root, op, on),
+        match (q, of) {
+            (List::Classes, _) => desk_token_classes(tp, tn, sp, sn, op, on),
+            (List::Openers, _) => desk_openers_left(tp, tn, sp, sn, op, on),
+            (List::WithNames, Of::Root(r)) => desk_with_names(tp, tn, sp, sn, r, op, on),
+            (List::TableAliases, Of::Root(r)) => desk_table_aliases(tp, tn, sp, sn, r, op, on),
+            (List::ColumnAliases, Of::Root(r)) => desk_column_aliases(tp, tn, sp, sn, r, op, on),
+            (List::TableRefs, Of::Root(r)) => desk_table_refs(tp, tn, sp, sn, r, op, on),
+            (List::WithNames, Of::Cursor(f)) => desk_with_names_at(tp, tn, sp, sn, f, op, on),
+            (List::TableAliases, Of::Cursor(f)) => desk_table_aliases_at(tp, tn, sp, sn, f, op, on),
+            (List::ColumnAliases, Of::Cursor(f)) => desk_column_aliases_at(tp, tn, sp, sn, f, op, on),
+            (List::TableRefs, Of::Cursor(f)) => desk_table_refs_at(tp, tn, sp, sn, f, op, on),
+            (List::Context, Of::Cursor(f) | Of::Root(f)) => desk_cursor_context(tp, tn, sp, sn, f, op, on),
         }
     })
 }

@@ -1,5 +1,5 @@
 //! The comparison with the Rust.
-//!   oracle compare FRAMES SEED [FLIP]                       compares; exit 1 at a difference. FLIP falsifies one of our answers (1 to 20)
+//!   oracle compare FRAMES SEED [FLIP]                       compares; exit 1 at a difference. FLIP falsifies one of our answers (1 to 37)
 //!   oracle measure QUESTION SIDE RECORDS DEPTH REPEATS      asks one side REPEATS times, for an instruction counter around it
 mod compare;
 mod desk;
@@ -50,7 +50,7 @@ fn compare(frames: usize, seed: u64) -> bool {
     println!("{} of them asked the Rust; {} lists with {} entries, each in five rooms", tally.rust_asked, tally.lists, tally.entries);
     println!("the Rust stopped at a lone quote mark {} times", tally.stopped);
     println!("refusals by number: {:?}", &tally.refused[1..]);
-    println!("contexts that the Rust gave, not yet compared: {:?}", tally.contexts);
+    println!("contexts by number: {:?}", tally.contexts);
     true
 }
 
@@ -85,15 +85,23 @@ fn measure(question: &str, side: &str, records: usize, depth: u32, repeats: usiz
         "aliases" => &desk::SCOPE[1..2],
         "columns" => &desk::SCOPE[2..3],
         "refs" => &desk::SCOPE[3..],
+        "context-top" | "context-middle" | "context-end" => &[desk::List::Context],
         "check" => &[],
-        _ => panic!("classes, openers, scope, with, aliases, columns, refs, check or shape"),
+        _ => panic!("classes, openers, scope, with, aliases, columns, refs, context-top, context-middle, context-end, check or shape"),
+    };
+    let end = f.source.len() as u32;
+    let of = match question {
+        "context-top" => desk::Of::Cursor(0),
+        "context-middle" => desk::Of::Cursor(end / 2),
+        "context-end" => desk::Of::Cursor(end),
+        _ => desk::Of::Root(0),
     };
     let mut sum = 0;
     for _ in 0..repeats {
         match side {
-            "rust" => sum += asked.measure(lists[0]),
+            "rust" => sum += asked.measure(lists[0], of),
             "ours" if lists.is_empty() => sum += desk::check(std::hint::black_box(&table), &f.source).1 as usize,
-            "ours" => for &q in lists { sum += desk::list(q, std::hint::black_box(&table), &f.source, 0, &mut out).1 as usize },
+            "ours" => for &q in lists { sum += desk::list(q, std::hint::black_box(&table), &f.source, of, &mut out).1 as usize },
             _ => panic!("ours or rust"),
         }
     }

@@ -1,6 +1,6 @@
 //! The Rust's answers, as our questions give them. A name comes back as a String; where it stands is found by a second run of the same
 //! function over a twin, whose token texts tell the records apart, and the first run's text is compared with the bytes at that place.
-use crate::desk::List;
+use crate::desk::{List, Of};
 use crate::frames::{Frame, Rec, BARE_WORD, NONE, QUOTED, TABLE_IDENTIFIER};
 use crate::text::analysis::cursor_context::{cursor_context, CursorContext};
 use crate::text::analysis::scope::{build_scope, find_enclosing_statement, NameBinding, QueryScope};
@@ -157,6 +157,28 @@ impl Twin {
     }
 }
 
+/// A context's number, its name and its argument index.
+fn coded(context: &CursorContext) -> (u32, String, u32) {
+    use CursorContext as C;
+    let plain = |n| (n, String::new(), 0);
+    match context {
+        C::SelectExpression => plain(0),
+        C::TableReference { database_prefix: None } => plain(1),
+        C::TableReference { database_prefix: Some(name) } => (2, name.clone(), 0),
+        C::ColumnOfTable { qualifier } => (3, qualifier.clone(), 0),
+        C::Expression => plain(4),
+        C::SettingName => plain(5),
+        C::EngineName => plain(6),
+        C::FormatName => plain(7),
+        C::DataType => plain(8),
+        C::CodecName => plain(9),
+        C::FunctionArgument { function_name, argument_index } => (10, function_name.clone(), *argument_index as u32),
+        C::StatementStart => plain(11),
+        C::Unknown => plain(12),
+        C::ClauseKeyword { .. } => unreachable!("the Rust names it and never gives it"),
+    }
+}
+
 /// What the Rust said, or that it stopped.
 pub enum Said<T> {
     Answer(T),
@@ -285,54 +307,44 @@ impl<'a> Asked<'a> {
         }
     }
 
-    /// Context, name range, argument index. Token ends do not matter to the cursor, only texts and starts: in this twin a token's length tells
-    /// its record, but `.`, `;`, ON and USING keep their text. A name that is one of those is known by its text alone.
-    pub fn context(&self, offset: u32) -> Result<[u32; 4], String> {
+    /// The context in a twin where a token's length tells its record, but where those that are kept have their text. Token ends do not matter
+    /// to the cursor, only starts and texts, and of the texts only those of `matters`.
+    fn context_twin(&self, offset: u32, kept: impl Fn(usize) -> bool) -> CursorContext {
         let mut source = vec![b'x'; self.frame.source.len() + 2 * self.frame.recs.len() + 8];
         let mut recs = self.frame.recs.clone();
-        for i in 0..recs.len() {
-            let text = self.frame.text(i);
-            let kept = recs[i].is_token() && (text == b"." || text == b";" || text.eq_ignore_ascii_case(b"ON") || text.eq_ignore_ascii_case(b"USING"));
-            if kept {
-                source[recs[i].start as usize..recs[i].end as usize].copy_from_slice(text);
-            } else if recs[i].is_token() {
+        for i in (0..recs.len()).filter(|&i| self.frame.recs[i].is_token()) {
+            if kept(i) {
+                source[recs[i].start as usize..recs[i].end as usize].copy_from_slice(self.frame.text(i));
+            } else {
                 recs[i].end = recs[i].start + 8 + i as u32;
             }
         }
-        let real = cursor_context(&self.tree, self.source, offset);
-        let twin = cursor_context(&tree_of(&recs), std::str::from_utf8(&source).expect("ASCII"), offset);
-        let name = |a: &str, b: &str| {
-            if b.len() < 8 {
-                let i = (0..recs.len()).find(|&i| recs[i].is_token() && self.frame.text(i) == a.as_bytes()).ok_or("no such text")?;
-                return Ok((self.frame.recs[i].start, self.frame.recs[i].end));
+        cursor_context(&tree_of(&recs), std::str::from_utf8(&source).expect("ASCII"), offset)
+    }
+
+    /// Context, name range, argument index. A name can be a text that matters only where the last token's matters: then one alone is kept.
+    pub fn context(&self, offset: u32) -> Result<[u32; 4], String> {
+        let matters = |i: usize| [".", ";", "ON", "USING"].iter().any(|w| self.frame.text(i).eq_ignore_ascii_case(w.as_bytes()));
+        let (number, name, index) = coded(&cursor_context(&self.tree, self.source, offset));
+        let each = (0..self.frame.recs.len()).filter(|&j| matters(j)).map(|j| self.context_twin(offset, move |i| i == j));
+        let twins = std::iter::once_with(|| self.context_twin(offset, matters)).chain(std::iter::once_with(|| self.context_twin(offset, |_| false))).chain(each);
+        for twin in twins {
+            let (twins_number, twins_name, twins_index) = coded(&twin);
+            if (number, index) != (twins_number, twins_index) || twins_name.len() < 8 && !twins_name.is_empty() {
+                continue;
             }
-            let r = self.frame.recs[b.len() - 8];
-            if self.frame.text(b.len() - 8) == a.as_bytes() { Ok((r.start, r.end)) } else { Err(format!("the Rust's name {a:?} is not record {}", b.len() - 8)) }
-        };
-        use CursorContext as C;
-        let plain = |n| Ok([n, NONE, NONE, 0]);
-        match (&real, &twin) {
-            (C::SelectExpression, C::SelectExpression) => plain(0),
-            (C::TableReference { database_prefix: None }, C::TableReference { database_prefix: None }) => plain(1),
-            (C::TableReference { database_prefix: Some(a) }, C::TableReference { database_prefix: Some(b) }) => name(a, b).map(|r| [2, r.0, r.1, 0]),
-            (C::ColumnOfTable { qualifier: a }, C::ColumnOfTable { qualifier: b }) => name(a, b).map(|r| [3, r.0, r.1, 0]),
-            (C::Expression, C::Expression) => plain(4),
-            (C::SettingName, C::SettingName) => plain(5),
-            (C::EngineName, C::EngineName) => plain(6),
-            (C::FormatName, C::FormatName) => plain(7),
-            (C::DataType, C::DataType) => plain(8),
-            (C::CodecName, C::CodecName) => plain(9),
-            (C::FunctionArgument { function_name: a, argument_index: i }, C::FunctionArgument { function_name: b, argument_index: j }) if i == j => {
-                if b.is_empty() { Ok([10, NONE, NONE, *i as u32]) } else { name(a, b).map(|r| [10, r.0, r.1, *i as u32]) }
+            if twins_name.is_empty() {
+                return if name.is_empty() { Ok([number, NONE, NONE, index]) } else { Err(format!("the twin has no name for {name:?}")) };
             }
-            (C::StatementStart, C::StatementStart) => plain(11),
-            (C::Unknown, C::Unknown) => plain(12),
-            other => Err(format!("contexts {other:?}")),
+            let i = twins_name.len() - 8;
+            let r = self.frame.recs[i];
+            return if self.frame.text(i) == name.as_bytes() { Ok([number, r.start, r.end, index]) } else { Err(format!("the Rust's name {name:?} is not record {i}")) };
         }
+        Err(format!("no twin has the context {number} with the name {name:?}"))
     }
 
     /// For measuring: the Rust's own functions on the tree, with nothing around them.
-    pub fn measure(&self, q: List) -> usize {
+    pub fn measure(&self, q: List, of: Of) -> usize {
         match q {
             List::Classes => {
                 let mut out = Vec::new();
@@ -340,6 +352,10 @@ impl<'a> Asked<'a> {
                 out.len()
             }
             List::Openers => bracket_matching::probe(&self.tree).len(),
+            List::Context => {
+                let Of::Cursor(offset) = of else { panic!("a context is at a cursor") };
+                matches!(cursor_context(&self.tree, self.source, offset), CursorContext::Unknown) as usize
+            }
             _ => build_scope(&self.tree, self.source).table_refs.len(),
         }
     }
