@@ -1,0 +1,187 @@
+/* The boundary, from C: replies, guard bytes, rooms, limits. Says what differs and exits 1, or says how much was tried. */
+#include "desk.h"
+#include <stdio.h>
+#include <string.h>
+
+static uint8_t table[16 * (DESK_RECORDS_MAX + 1)];
+static size_t used;
+static uint8_t source[DESK_SOURCE_MAX + 1], message[DESK_MESSAGE_MAX + 1];
+static size_t source_len;
+static unsigned tried, wrong;
+
+static void number(uint8_t *at, uint32_t v) {
+    for (int i = 0; i < 4; i++) at[i] = (uint8_t)(v >> 8 * i);
+}
+
+static void record(uint32_t kind, uint32_t depth, uint32_t start, uint32_t end) {
+    uint32_t fields[4] = {kind, depth, start, end};
+    for (int i = 0; i < 4; i++) number(table + used + 4 * i, fields[i]);
+    used += 16;
+}
+
+static void expect(const char *what, uint64_t reply, uint32_t refusal, uint32_t answer) {
+    tried++;
+    if (DESK_REFUSAL(reply) == refusal && DESK_ANSWER(reply) == answer) return;
+    wrong++;
+    printf("%s: %u %u, not %u %u\n", what, (unsigned)DESK_REFUSAL(reply), (unsigned)DESK_ANSWER(reply), (unsigned)refusal, (unsigned)answer);
+}
+
+/* A question for a list, by its name, of a root or offset where it has one. */
+static uint64_t list(const char *q, uint32_t of, uint8_t *out, size_t len) {
+    static const struct {
+        const char *name;
+        uint64_t (*ask)(const uint8_t *, size_t, const uint8_t *, size_t, uint32_t, uint8_t *, size_t);
+    } asked[] = {
+        {"with_names", desk_with_names}, {"table_aliases", desk_table_aliases}, {"column_aliases", desk_column_aliases}, {"table_refs", desk_table_refs},
+        {"with_names_at", desk_with_names_at}, {"table_aliases_at", desk_table_aliases_at}, {"column_aliases_at", desk_column_aliases_at},
+        {"table_refs_at", desk_table_refs_at}, {"cursor_context", desk_cursor_context},
+    };
+    if (!strcmp(q, "token_classes")) return desk_token_classes(table, used, source, source_len, out, len);
+    if (!strcmp(q, "openers_left")) return desk_openers_left(table, used, source, source_len, out, len);
+    for (size_t i = 0; i < sizeof asked / sizeof *asked; i++)
+        if (!strcmp(q, asked[i].name)) return asked[i].ask(table, used, source, source_len, of, out, len);
+    printf("no question %s\n", q);
+    wrong++;
+    return 0;
+}
+
+static const char *const lists[] = {"token_classes", "openers_left", "with_names", "table_aliases", "column_aliases", "table_refs",
+    "with_names_at", "table_aliases_at", "column_aliases_at", "table_refs_at", "cursor_context"};
+
+enum { GUARD = 32, ROOM = 1024 };
+static uint8_t lent[GUARD + ROOM + GUARD], before[sizeof lent];
+
+/* In a room of `len` bytes between guards: the reply, and every byte. */
+static void in_room(const char *q, uint32_t of, size_t len, uint32_t refusal, uint32_t answer, const uint32_t *numbers, size_t count) {
+    for (size_t i = 0; i < sizeof lent; i++) lent[i] = before[i] = (uint8_t)(i * 37 + 11);
+    for (size_t i = 0; i < count && refusal == 0; i++) number(before + GUARD + 4 * i, numbers[i]);
+    expect(q, list(q, of, lent + GUARD, len), refusal, answer);
+    if (memcmp(lent, before, sizeof lent)) {
+        wrong++;
+        printf("%s of %u in %zu bytes: other bytes\n", q, (unsigned)of, len);
+    }
+}
+
+/* More room than needed, exactly enough, one byte short, none. */
+static void in_rooms(const char *q, uint32_t of, const uint32_t *numbers, size_t entries, size_t width) {
+    size_t need = entries * width;
+    in_room(q, of, need + 13, 0, (uint32_t)entries, numbers, need / 4);
+    in_room(q, of, need, 0, (uint32_t)entries, numbers, need / 4);
+    if (!need) return;
+    in_room(q, of, need - 1, 7, (uint32_t)entries, numbers, 0);
+    in_room(q, of, 0, 7, (uint32_t)entries, numbers, 0);
+    expect("no buffer", list(q, of, NULL, 0), 7, (uint32_t)entries);
+}
+
+/* Every question is refused so, and touches nothing. */
+static void refused(uint32_t refusal, uint32_t detail) {
+    expect("check", desk_check(table, used, source, source_len), refusal, detail);
+    expect("hint", desk_bracket_hint(table, used, source, source_len, message, 10), refusal, detail);
+    expect("statement", desk_enclosing_statement(table, used, source, source_len, 0), refusal, detail);
+    expect("root", desk_cursor_root(table, used, source, source_len, 0), refusal, detail);
+    for (size_t i = 0; i < sizeof lists / sizeof *lists; i++) in_room(lists[i], 0, ROOM, refusal, detail, NULL, 0);
+}
+
+static void page(const char *text) {
+    used = 0;
+    source_len = strlen(text);
+    memcpy(source, text, source_len);
+}
+
+/* Document 01's worked tree. */
+static void worked(void) {
+    page("SELECT r. FROM raw r");
+    record(1, 0, 0, 20); record(4, 1, 0, 20); record(15, 2, 0, 9); record(131, 3, 0, 6); record(129, 3, 6, 7); record(47, 3, 7, 9);
+    record(131, 4, 7, 8); record(128, 4, 8, 9); record(129, 2, 9, 10); record(16, 2, 10, 20); record(131, 3, 10, 14); record(129, 3, 14, 15);
+    record(33, 3, 15, 18); record(131, 4, 15, 18); record(129, 3, 18, 19); record(35, 3, 19, 20); record(131, 4, 19, 20);
+}
+
+static void answers(void) {
+    static const uint32_t classes[] = {0, 6, 0, 7, 8, 6, 10, 14, 0, 15, 18, 9, 19, 20, 9}, column[] = {3, 7, 8, 0};
+    static const uint32_t reference[] = {12, DESK_NONE, DESK_NONE, 15, 18, 19, 20}, alias[] = {19, 20, 19, 20, 19, 20};
+    static const uint32_t from[] = {1, DESK_NONE, DESK_NONE, 0}, start[] = {11, DESK_NONE, DESK_NONE, 0};
+    worked();
+    expect("check", desk_check(table, used, source, source_len), 0, 0);
+    in_rooms("token_classes", 0, classes, 5, DESK_CLASS_BYTES);
+    in_rooms("openers_left", 0, NULL, 0, DESK_OPENER_BYTES);
+    in_rooms("cursor_context", 9, column, 1, DESK_CONTEXT_BYTES);
+    in_rooms("cursor_context", 10, from, 1, DESK_CONTEXT_BYTES);
+    in_rooms("table_refs", 0, reference, 1, DESK_REFERENCE_BYTES);
+    in_rooms("table_refs_at", 9, reference, 1, DESK_REFERENCE_BYTES);
+    in_rooms("table_aliases", 1, alias, 1, DESK_BINDING_BYTES);
+    in_rooms("table_aliases_at", 9, alias, 1, DESK_BINDING_BYTES);
+    in_rooms("with_names", 0, NULL, 0, DESK_BINDING_BYTES);
+    in_rooms("with_names_at", 9, NULL, 0, DESK_BINDING_BYTES);
+    in_rooms("column_aliases", 0, NULL, 0, DESK_BINDING_BYTES);
+    in_rooms("column_aliases_at", 9, NULL, 0, DESK_BINDING_BYTES);
+    expect("statement", desk_enclosing_statement(table, used, source, source_len, 9), 0, 1);
+    expect("no statement", desk_enclosing_statement(table, used, source, source_len, 21), 0, DESK_NONE);
+    expect("root", desk_cursor_root(table, used, source, source_len, 9), 0, 1);
+    expect("root past the end", desk_cursor_root(table, used, source, source_len, DESK_NONE), 0, 0);
+    for (int i = 2; i < 6; i++) {
+        in_room(lists[i], 3, ROOM, 8, 0, NULL, 0);
+        in_room(lists[i], 17, ROOM, 8, 0, NULL, 0);
+        in_room(lists[i], DESK_NONE, 0, 8, 0, NULL, 0);
+    }
+    page("");
+    record(1, 0, DESK_NONE, 0);
+    expect("no source", desk_check(table, used, NULL, 0), 0, 0);
+    in_rooms("cursor_context", 0, start, 1, DESK_CONTEXT_BYTES);
+    page("( [ )");
+    record(1, 0, 0, 5); record(137, 1, 0, 1); record(138, 1, 2, 3); record(140, 1, 4, 5);
+    static const uint32_t openers[] = {1, 2};
+    in_rooms("openers_left", 0, openers, 2, DESK_OPENER_BYTES);
+    expect("hint", desk_bracket_hint(table, used, source, source_len, (const uint8_t *)"expected ]", 10), 0, 2);
+    expect("no message", desk_bracket_hint(table, used, source, source_len, NULL, 0), 0, DESK_NONE);
+}
+
+/* An inner and an outer alias of one name: each cursor is offered its own. */
+static void spring(void) {
+    page("SELECT (SELECT r. FROM labs r) FROM rooms r");
+    record(1, 0, 0, 43); record(4, 1, 0, 43); record(15, 2, 0, 30); record(131, 3, 0, 6); record(30, 3, 7, 30); record(137, 4, 7, 8);
+    record(4, 4, 8, 29); record(15, 5, 8, 17); record(131, 6, 8, 14); record(47, 6, 15, 17); record(131, 7, 15, 16); record(128, 7, 16, 17);
+    record(16, 5, 18, 29); record(131, 6, 18, 22); record(33, 6, 23, 27); record(131, 7, 23, 27); record(35, 6, 28, 29); record(131, 7, 28, 29);
+    record(140, 4, 29, 30); record(16, 2, 31, 43); record(131, 3, 31, 35); record(33, 3, 36, 41); record(131, 4, 36, 41); record(35, 3, 42, 43);
+    record(131, 4, 42, 43);
+    static const uint32_t inner[] = {14, DESK_NONE, DESK_NONE, 23, 27, 28, 29}, outer[] = {21, DESK_NONE, DESK_NONE, 36, 41, 42, 43};
+    expect("inner root", desk_cursor_root(table, used, source, source_len, 17), 0, 4);
+    in_rooms("table_refs_at", 17, inner, 1, DESK_REFERENCE_BYTES);
+    expect("outer root", desk_cursor_root(table, used, source, source_len, 36), 0, 1);
+    in_rooms("table_refs_at", 36, outer, 1, DESK_REFERENCE_BYTES);
+}
+
+static void refusals(void) {
+    used = 0; source_len = 0;
+    refused(1, 0);
+    expect("no table", desk_check(NULL, 0, NULL, 0), 1, 0);
+    worked(); used -= 1; refused(1, 0);
+    used = 0;
+    for (uint32_t i = 0; i <= DESK_RECORDS_MAX; i++) record(0, i > 0, 0, 0);
+    refused(1, 0);
+    used -= 16;
+    expect("most records", desk_check(table, used, source, source_len), 0, 0);
+    worked(); source_len = DESK_SOURCE_MAX + 1; refused(2, 0);
+    source_len = DESK_SOURCE_MAX; expect("longest source", desk_check(table, used, source, source_len), 0, 0);
+    expect("longest message", desk_bracket_hint(table, used, source, source_len, message, DESK_MESSAGE_MAX), 0, DESK_NONE);
+    expect("long message", desk_bracket_hint(table, used, source, source_len, message, DESK_MESSAGE_MAX + 1), 2, 0);
+    static const uint32_t unlisted[] = {56, 127, 158, 255, 256, 257, 65536 + 4, DESK_NONE};
+    for (size_t i = 0; i < sizeof unlisted / sizeof *unlisted; i++) { worked(); number(table + 32, unlisted[i]); refused(3, 2); }
+    worked(); number(table, 131); refused(4, 0);
+    worked(); number(table + 16 + 4, 2); refused(4, 1);
+    worked(); number(table + 5 * 16 + 4, 4); refused(4, 5);
+    used = 0; source_len = 0;
+    for (uint32_t i = 0; i <= DESK_DEPTH_MAX; i++) record(0, i, 0, 0);
+    expect("deepest", desk_check(table, used, source, source_len), 0, 0);
+    record(0, DESK_DEPTH_MAX + 1, 0, 0); refused(5, DESK_DEPTH_MAX + 1);
+    worked(); source_len = 19; refused(6, 16);
+    worked(); number(table + 4 * 16 + 8, 5); refused(6, 4);
+    worked(); number(table + 3 * 16 + 8, 7); refused(6, 3);
+}
+
+int main(void) {
+    answers();
+    spring();
+    refusals();
+    if (!wrong) printf("%u replies as they must be\n", tried);
+    return wrong != 0;
+}
