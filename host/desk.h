@@ -92,7 +92,8 @@ uint64_t desk_table_aliases(const uint8_t *table, size_t table_len, const uint8_
 /* The aliases of columns: entries of DESK_BINDING_BYTES. */
 uint64_t desk_column_aliases(const uint8_t *table, size_t table_len, const uint8_t *source, size_t source_len, uint32_t root, uint8_t *out, size_t out_len);
 
-/* The tables that FROM and JOIN name: entries of DESK_REFERENCE_BYTES. A table of a JOIN inside a FROM is reached, and listed, twice. */
+/* The tables that FROM and JOIN name: entries of DESK_REFERENCE_BYTES. A table is listed once for each FROM or JOIN
+ * that reaches it: `FROM a JOIN b` gives a, b, b. */
 uint64_t desk_table_refs(const uint8_t *table, size_t table_len, const uint8_t *source, size_t source_len, uint32_t root, uint8_t *out, size_t out_len);
 
 /* ---- at a cursor. Refusals 1 to 6, then 7 where there is a list */

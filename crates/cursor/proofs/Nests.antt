@@ -13,7 +13,8 @@ use Rattle.table.specs.Table.{count, depthAt, kindAt, recordAt, run, from, reco
 use Rattle.table.specs.Forest.{Forest, nil, token, node, level, kids, extent, stretchEnd}
 use Rattle.table.specs.Descent.{path, pathOf}
 use Rattle.table.proofs.Laws.{lt-or-le, node-or-token, level-shallow, level-deep, level-token, level-node, extent-deep, extent-stop, from-cons}
-use Rattle.cursor.specs.Path.{holds, pathAt}
+use Rattle.scope.specs.Statement.{holds}
+use Rattle.cursor.specs.Path.{pathAt}
 
 -- the first node stands from record lo on and before record hi, in depth d; the next in its stretch, one deeper; and so on
 unfoldable pub Nested : List ℕ → ℕ → ℕ → ℕ → List Rec → Type 0

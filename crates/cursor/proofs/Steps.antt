@@ -10,7 +10,8 @@ use Rattle.table.specs.declared.record.Rec.{Rec}
 use Rattle.table.specs.Table.{records}
 use Rattle.table.specs.Descent.{pathOf, along}
 use Rattle.table.proofs.Descents.{Descent, answer}
-use Rattle.cursor.specs.Path.{holds, pathAt}
+use Rattle.scope.specs.Statement.{holds}
+use Rattle.cursor.specs.Path.{pathAt}
 use Rattle.table.specs.Kinds.{subqueryExpression}
 use Rattle.cursor.specs.declared.cursor_context.Next.{Next}
 use Rattle.cursor.specs.declared.cursor_context.Next.the-variants.{Deepest, Above}

@@ -1,20 +1,17 @@
 -- Document 01, Cursor, "Path": the nodes from record 0 down to an offset, and what stands below one of them.
 -- Definitions only.
 use Prim.Native.Nat.{ℕ}
-use mathlib.Core.Bool.{Bool, false, cond, _&&_, _||_}
+use mathlib.Core.Bool.{Bool, false, cond, _||_}
 use mathlib.Core.List.{List, [], _∷_}
 use mathlib.Core.Option.{Option, none, some}
-use lib.Dec.{leb, eqb}
+use lib.Dec.{eqb}
 use Rattle.table.specs.declared.record.Rec.{Rec}
 use Rattle.table.specs.Table.{from, records}
 use Rattle.table.specs.Forest.{Forest, kids}
 use Rattle.table.specs.Descent.{pathOf}
+use Rattle.scope.specs.Statement.{holds}
 
--- a node holds the offset, both ends inclusive: an empty node holds none
-abbrev pub holds : ℕ → Rec → Bool
-holds o r = leb (r .start) o && leb o (r .end)
-
--- the path: record 0, then at each node the first child that holds the offset
+-- the path: record 0, then at each node the first child that holds the offset, both ends inclusive; an empty node holds none
 abbrev pub pathAt : List ℕ → ℕ → List Rec
 pathAt t o = pathOf (holds o) (records 0 t)
 

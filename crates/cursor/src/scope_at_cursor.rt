@@ -26,7 +26,7 @@ pub enum RootReply {
 }
 
 // The deepest subquery on the path, else the enclosing statement, else record 0.
-pub fn root_at(table: &[u8], offset: usize) -> u32
+fn root_at(table: &[u8], offset: usize) -> u32
     requires { ⌜ (0 < count (now table)) × (count (now table) < 4294967296) ⌝ }
     ensures { λ r. ⌜ r ≡ rootAt (now (table .entry)) offset ⌝ }
 {
