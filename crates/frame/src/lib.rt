@@ -1,0 +1,37 @@
+// glance's whole work, from input bytes to output bytes: what the program prints is proved here.
+pub mod input;
+mod output;
+
+use input::Frame;
+use input::read_frame;
+use output::put_refusal;
+use output::put_reply;
+use table::record::RECORD_BYTES;
+ghost use mathlib.Core.Path.{_≡_};
+ghost use mathlib.Core.List.{_++_};
+ghost use Prim.Native.Nat.{_≤_};
+ghost use lib.ListN.{length, drop};
+ghost use Rattle.frame.specs.Output.{glanced};
+
+// How many bytes of room every answer has.
+pub const TEXT_ROOM: usize = 208244;
+
+// The most bytes that matter of an input: every longer one has a fault before them.
+pub const INPUT_ROOM: usize = 29707;
+
+// Reads a frame, asks the questions and writes what glance prints, from out's first byte on. Returns how many bytes that is.
+pub fn glance(input: &[u8], out: &mut [u8; TEXT_ROOM]) -> usize
+    ensures { λ r. ⌜ (r ≡ length (glanced (now (input .entry))))
+        × (now (out .exit) ≡ glanced (now (input .entry)) ++ drop (length (glanced (now (input .entry)))) (now (out .entry)))
+        × (r ≤ length (now (out .exit))) ⌝ }
+{
+    let mut source = [0u8; 4096];
+    let mut table = [0u8; 16384];
+    match read_frame(input, &mut source, &mut table) {
+        Frame::Unreadable(line) => put_refusal(out, 9, line),
+        Frame::Given(bytes, offset, records) => {
+            let end = RECORD_BYTES * records;
+            put_reply(out, &table[..end], &source[..bytes], offset)
+        }
+    }
+}
