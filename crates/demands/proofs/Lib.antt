@@ -1,0 +1,3 @@
+pub mod Replies
+pub mod Demand3
+pub mod Spring
