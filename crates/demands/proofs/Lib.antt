@@ -1,3 +1,6 @@
 pub mod Replies
 pub mod Demand3
 pub mod Spring
+pub mod KindLists
+pub mod BracketMatchingRs
+pub mod SemanticTokensRs
