@@ -4,3 +4,4 @@ pub mod Spring
 pub mod KindLists
 pub mod BracketMatchingRs
 pub mod SemanticTokensRs
+pub mod ScopeRs

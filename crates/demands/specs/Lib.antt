@@ -6,3 +6,4 @@ pub mod Spring
 pub mod Rust
 pub mod BracketMatchingRs
 pub mod SemanticTokensRs
+pub mod ScopeRs
