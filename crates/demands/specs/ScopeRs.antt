@@ -107,7 +107,7 @@ pub record Ident : Type 0 where
   pub name : Str
   pub token : Rec
 
--- fn extract_alias_name(tree, source): `last_ident` is carried along
+-- fn extract_alias_name(tree, source): `last_ident` is carried along. A stop that a later name takes the place of is not told
 unfoldable pub «extract_alias_name» : Forest → List ℕ → Option Ident → Option Ident
 «extract_alias_name» nil source «last_ident» = «last_ident»
 «extract_alias_name» (token t rest) source «last_ident» =
