@@ -1,19 +1,18 @@
 -- The Rust's bracket matching and document 01's say the same. The Rust's stack has its top last, document 01's first.
 -- Assumes nothing.
-use Prim.Native.Nat.{ℕ, _+_}
+use Prim.Native.Nat.{ℕ}
 use mathlib.Core.Path.{_≡_, refl, sym, ap, _∙_}
 use mathlib.Core.Bool.{Bool, true, false, cond}
-use mathlib.Core.List.{List, [], _∷_, _++_, map, reverse, reverse-cons, reverse-reverse}
-use mathlib.Core.Option.{Option, none, some}
+use mathlib.Core.List.{List, [], _∷_, map, reverse, reverse-cons, reverse-reverse}
+use mathlib.Core.Option.{none, some}
 use lib.Dec.{eqb}
 use Rattle.table.specs.declared.record.Rec.{Rec}
 use Rattle.table.specs.Kinds.{openingRound, openingSquare, openingCurly}
 use Rattle.table.specs.Table.{records}
 use Rattle.table.specs.Forest.{Forest, nil, token, node, kids}
 use Rattle.table.specs.Text.{bytesOf}
-use Rattle.scope.specs.declared.bracket_matching.Hint.{Hint}
 use Rattle.scope.specs.declared.bracket_matching.Hint.the-variants.{Opener, NoOpener}
-use Rattle.scope.specs.Brackets.{isOpener, isCloser, fits, closed, stepped, left, stackLeft, openersLeft, indexOf, holding, lastOf, hintOf}
+use Rattle.scope.specs.Brackets.{fits, closed, stepped, left, stackLeft, indexOf, holding, lastOf, hintOf}
 use Rattle.cursor.specs.Path.{oneOf}
 use Rattle.demands.specs.Rust.{push, last, pop, find}
 use Rattle.demands.specs.BracketMatchingRs.{matches, popMatching, bracket, «collect_brackets», closer, findOpener, enrich, hint, BracketMatchingRs}

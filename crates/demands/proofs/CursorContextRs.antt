@@ -7,24 +7,23 @@ use mathlib.Core.List.{List, [], _∷_, _++_, map, reverse, reverseAux, append-n
 use mathlib.Core.Logic.{⊎-elim}
 use mathlib.Core.Option.{Option, none, some}
 use native.Mathlib.Omega.{arith}
-use borrow.Author.Tests.{lt-ltb, le-ltb, le-leb, lt-leb, eq-eqb, ne-eqb, leb-true, leb-false, ltb-true, ltb-false}
+use borrow.Author.Tests.{lt-ltb, le-ltb, le-leb, lt-leb, eq-eqb}
 use lib.Dec.{leb, ltb, eqb}
 use lib.ListN.{length}
 use Rattle.table.specs.declared.record.Rec.{Rec}
 use Rattle.table.specs.declared.check.Verdict.the-variants.{Admitted}
-use Rattle.table.specs.Table.{count, kindAt, recordAt, from, records}
+use Rattle.table.specs.Table.{count, recordAt, records}
 use Rattle.table.specs.Forest.{Forest, nil, token, node, kids}
 use Rattle.table.specs.Rules.{verdict}
 use Rattle.table.specs.Sense.{Tidy}
-use Rattle.table.specs.Scan.{Reading, fold, ofTokens, reached}
+use Rattle.table.specs.Scan.{Reading, fold, ofTokens}
 use Rattle.table.specs.Descent.{path as way, pathOf, along}
-use Rattle.table.specs.Text.{text, bytesOf, same, says}
+use Rattle.table.specs.Text.{text, bytesOf}
 use Rattle.table.proofs.Laws.{lt-or-le, from-cons}
 use Rattle.table.proofs.Scans.{fold-tokens}
 use Rattle.table.proofs.Sense.{admitted-tidy}
 use Rattle.scope.specs.Statement.{holds}
 use Rattle.scope.proofs.Counts.{decide}
-use Rattle.cursor.specs.declared.cursor_context.Range.{Range}
 use Rattle.cursor.specs.declared.cursor_context.Name.{Name}
 use Rattle.cursor.specs.declared.cursor_context.Name.the-variants.{Nameless, Named}
 use Rattle.cursor.specs.declared.cursor_context.LastTwo.{LastTwo}
@@ -36,9 +35,9 @@ use Rattle.cursor.specs.declared.cursor_context.Answer.the-variants.{GoOn, Give
 use Rattle.cursor.specs.declared.cursor_context.Next.{Next}
 use Rattle.cursor.specs.declared.cursor_context.Next.the-variants.{Deepest, Above}
 use Rattle.cursor.specs.declared.cursor_context.CursorContext.{CursorContext}
-use Rattle.cursor.specs.declared.cursor_context.CursorContext.the-variants.{SelectExpression, TableReference, ColumnOfTable, Expression, SettingName, EngineName, FormatName, DataType, CodecName, FunctionArgument, StatementStart, Unknown}
+use Rattle.cursor.specs.declared.cursor_context.CursorContext.the-variants.{SelectExpression, TableReference, Expression, SettingName, EngineName, FormatName, DataType, CodecName, StatementStart}
 use Rattle.cursor.specs.Path.{pathAt, inside, oneOf, deepestOr, deepest, onPath}
-use Rattle.cursor.specs.LastToken.{named, counted, entered, reading, lastOr, init, lastTwo, isText, dot, semicolon, dotted, isJoinWord, isWord as isWordIn}
+use Rattle.cursor.specs.LastToken.{named, counted, entered, reading, lastOr, init, lastTwo, isText, dot, dotted, isJoinWord, isWord as isWordIn}
 use Rattle.cursor.specs.Function.{bareWordIn, orName, functionName, opens, argued, arguments}
 use Rattle.cursor.specs.Trailing.{isStatement, lastClause as lastClauseIn, pastClause as pastKind, pastEnd, trailingIn, trailingRule}
 use Rattle.cursor.specs.PathRules.{Seen, nextOf, isDeepest, deepestOver, tableReference, joined, functionArgument, columnOr, column, pathRules, ruled, orElse, seen, byPath, pathRule}
@@ -46,7 +45,7 @@ use Rattle.cursor.specs.Context.{startsAfter, lastRule, givenOr, contextAt}
 use Rattle.demands.specs.Rust.{push, find}
 use Rattle.demands.specs.CursorContextRs.{textOf, returnOr, PathNode, descend, «find_node_path», Before, skipped, «token_before_impl», «token_before_offset», isWord, saysWord, Prev, «find_ident_before_dot_impl», beforeDot, «find_identifier_before_dot», «table_ref_or_dot», columnOf, «check_dot_access», firstBareWord, «extract_function_name», Commas, «count_commas_impl», «count_commas_before», isStatementLike, lastClause, trailing, pastClause, trailingOf, «check_trailing_clause», isLast, isLastOr, met, joinArm, arm, ancestors, startsNext, fallback, «analyze_path», «cursor_context», nameOf, CursorContextRs}
 use Rattle.demands.proofs.KindLists.{range-list}
-use Rattle.demands.proofs.Starts.{Since, Rises, fold-late, Rooted, inside-rises, inside-rooted}
+use Rattle.demands.proofs.Starts.{Rises, fold-late, Rooted, inside-rises, inside-rooted}
 
 -- ---- the token before the offset
 
@@ -320,11 +319,11 @@ module _ (t : List ℕ) (o : ℕ) where
       go true ib ir = ib ∙ append-assoc p (record { tree = r; children = below } ∷ []) _ ∙ ap (λ (n : PathNode). p ++ n ∷ map (at t) (way (holds o) below)) here
       go false ib ir = ir
 
-  path-same : 0 < count t → «find_node_path» (recordAt t 0 0) (kids (records 0 t)) o ≡ map (at t) (pathAt t o)
+  path-same : {n : ℕ} → Tidy t n → «find_node_path» (recordAt t 0 0) (kids (records 0 t)) o ≡ map (at t) (pathAt t o)
   unfolding «find_node_path» pathOf recordAt
-  path-same h =
-      descend-same (kids (records 0 t)) _ (inside-rooted t 0)
-      ∙ sym (ap (λ (rs : List Rec). map (at t) (pathOf (holds o) rs)) (from-cons t 0 0 h) ∙ rw (← from-cons t 0 0 h))
+  path-same tidy =
+      descend-same (kids (records 0 t)) _ (inside-rooted tidy 0)
+      ∙ sym (ap (λ (rs : List Rec). map (at t) (pathOf (holds o) rs)) (from-cons t 0 0 (tidy .some)) ∙ rw (← from-cons t 0 0 (tidy .some)))
 
 -- ---- the trailing clause
 
@@ -576,7 +575,7 @@ module _ (src t : List ℕ) (o : ℕ) {m : ℕ} (tidy : Tidy t m) (path : List R
       rw e
       (return-given (arm (at t r) (kindOf deeper) (map (at t) path) src o) (going (some (r .kind)) above)
       ∙ ap (givenOr (going (some (r .kind)) above))
-      (arm-same src o (map (at t) path) constrained (met-same t path) (at t r) (kindOf deeper) (inside-rises t tidy (r .index))
+      (arm-same src o (map (at t) path) constrained (met-same t path) (at t r) (kindOf deeper) (inside-rises tidy (r .index))
       ∙ ap (λ (x : Next). ruled (r .kind) (pathRules src o (record { kind = r .kind; next = x; children = inside t (r .index); constrained = constrained }))) (next-of deeper))))
 
   all-up : (p : List Rec) (above : List PathNode) → going none (reverseAux (map (at t) p) above) ≡ givenOr (going (kindOf p) above) (byPath src t o constrained p)
@@ -624,7 +623,7 @@ module _ (src t : List ℕ) (o : ℕ) (ok : verdict t (length src) 0 ≡ Admitte
 
   context-same : «cursor_context» (recordAt t 0 0) (kids (records 0 t)) src o ≡ contextAt src t o
   unfolding «cursor_context» contextAt
-  context-same = rw (path-same t o (tidy .some), path-is) analyzed
+  context-same = rw (path-same t o tidy, path-is) analyzed
 
   map-tree : (p : List Rec) → map (λ (n : PathNode). n .tree) (map (at t) p) ≡ p
   map-tree [] = refl
@@ -633,10 +632,10 @@ module _ (src t : List ℕ) (o : ℕ) (ok : verdict t (length src) 0 ≡ Admitte
   pub cursor-context-rs : CursorContextRs src t o
   cursor-context-rs =
       record {
-        path = ap (map (λ (n : PathNode). n .tree)) (path-same t o (tidy .some)) ∙ map-tree (pathAt t o);
+        path = ap (map (λ (n : PathNode). n .tree)) (path-same t o tidy) ∙ map-tree (pathAt t o);
         last-token = λ i. before-same o (recordAt t 0 i) (inside t i);
-        before-dot = λ i. identifier-same o src (inside t i) (inside-rises t tidy i);
+        before-dot = λ i. identifier-same o src (inside t i) (inside-rises tidy i);
         function-name = λ i. name-same (inside t i);
-        argument-index = λ i. commas-same o (inside t i) (inside-rises t tidy i);
+        argument-index = λ i. commas-same o (inside t i) (inside-rises tidy i);
         context = context-same;
       }

@@ -5,23 +5,24 @@
 --     one-reply                    two replies that meet both demands are equal
 --     number-told, plain-told, rooted-told    each form of promise tells them by it
 -- Assumes nothing.
-use Prim.Native.Nat.{ℕ, zero, suc, _+_, _*_, _≤_, _<_}
+use Prim.Native.Nat.{ℕ, _+_, _*_, _≤_, _<_}
 use mathlib.Core.Path.{_≡_, refl, sym, ap, _∙_}
 use mathlib.Core.Bool.{Bool, true, false, cond}
 use mathlib.Core.List.{List, [], _∷_, _++_, map}
-use mathlib.Core.Logic.{_⊎_, inl, inr, _↔_}
+use mathlib.Core.Logic.{_⊎_, inl, inr}
 use mathlib.Core.Option.{Option, none, some}
 use native.Mathlib.Omega.{arith}
-use borrow.Author.Tests.{lt-ltb, le-ltb, ltb-true, ltb-false}
-use lib.ListN.{length, drop, length-map}
-use lib.Dec.{ltb, eqb}
+use borrow.Author.Tests.{lt-ltb, le-ltb, le-leb, ltb-true, ltb-false, leb-true, not-false}
+use lib.ListN.{length, length-map}
+use lib.Dec.{ltb}
 use Rattle.table.specs.declared.check.Verdict.{Verdict}
 use Rattle.table.specs.declared.check.Verdict.the-variants.{Admitted, Refused}
-use Rattle.table.specs.declared.list.Listed.{Listed}
-use Rattle.table.specs.Table.{count}
-use Rattle.table.specs.Rules.{Rule, rule, first, rules, rootRules, noRoot, verdict}
-use Rattle.table.specs.Lists.{rowBytes, listBytes, roomRule, listVerdict, reply, buffer, listed, lent}
+use Rattle.table.specs.Kinds.{isNode, expression}
+use Rattle.table.specs.Table.{count, kindAt}
+use Rattle.table.specs.Rules.{Rule, first, rules, rootRules, noRoot, verdict}
+use Rattle.table.specs.Lists.{listBytes, roomRule, listVerdict, reply, buffer, listed, lent}
 use Rattle.table.specs.Exactly.{Broken, broken-1, broken-2, broken-3, broken-4, broken-5, broken-6, place, Least}
+use Rattle.table.proofs.Texts.{both}
 use Rattle.table.proofs.Exactly.{clash, refused-exactly, admitted-exactly}
 use Rattle.scope.specs.declared.bracket_matching.Hint.{Hint}
 use Rattle.scope.specs.Brackets.{hinted}
@@ -31,8 +32,8 @@ use Rattle.scope.specs.Statement.{told, statementReply}
 use Rattle.cursor.specs.Root.{rootReply}
 use Rattle.desk.specs.Reply.{packed, answered, verdictReply, listReply, hintRecord, hintReply, statementNumber, rootNumber}
 use Rattle.demands.specs.declared.Question.{Question}
-use Rattle.demands.specs.Questions.{Asked, Said, number, rows, Matter, plain, ofMessage, ofRoot, list, statementRecord, matter, answerOf, bytesOf, written}
-use Rattle.demands.specs.Demand1.{Holds, of-table, of-root, of-room, placeIn, First, Refusal, Answer, Refuses, Demand1}
+use Rattle.demands.specs.Questions.{Asked, Said, number, Matter, plain, ofRoot, list, statementRecord, matter, answerOf, bytesOf, written}
+use Rattle.demands.specs.Demand1.{NoNode, Holds, of-table, of-root, of-room, placeIn, First, Refusal, Answer, Refuses, Demand1}
 use Rattle.demands.specs.Demand2.{Demand2}
 
 -- ---- the verdict on a question
@@ -51,6 +52,14 @@ first-after (r ∷ rs) more = go (r .broken) (first-after rs more)
         → cond b (Refused (r .number) (r .detail)) (first (rs ++ more)) ≡ after (cond b (Refused (r .number) (r .detail)) (first rs)) (first more)
     go true ih = refl
     go false ih = ih
+
+no-node : (t : List ℕ) (i : ℕ) → noRoot t i ≡ true → NoNode t i
+no-node t i e h k = clash (rw (lt-ltb i (count t) h, le-leb (kindAt t i) expression k)) e
+
+a-node : (t : List ℕ) (i : ℕ) → noRoot t i ≡ false → NoNode t i → ⊥
+a-node t i e w =
+    let b = both (ltb i (count t)) (isNode (kindAt t i)) (not-false _ e) in
+    w (ltb-true i (count t) (b .0)) (leb-true (kindAt t i) expression (b .1))
 
 -- 8
 unfoldable pub rooted : List ℕ → Option ℕ → Verdict
@@ -117,7 +126,7 @@ module _ (a : Asked) (m : Matter) where
       go k′ d′ (of-room e z h) = rw (at-room k′ d′ e) (omega (arith, at-table k d (l .holds) .1))
 
   by-root : Nothing → (i : ℕ) → m .root ≡ some i → noRoot t i ≡ true → First a m 8 0
-  by-root free i r b = record { holds = of-root i r refl refl b; none-before = go }
+  by-root free i r b = record { holds = of-root i r refl refl (no-node t i b); none-before = go }
     where
       go : (k′ d′ : ℕ) → Holds a m k′ d′ → at 8 0 ≤ at k′ d′
       go k′ d′ (of-table x) = absurd (free k′ d′ x)
@@ -132,7 +141,7 @@ module _ (a : Asked) (m : Matter) where
     where
       go : (k′ d′ : ℕ) → Holds a m k′ d′ → at 7 (answerOf (m .said)) ≤ at k′ d′
       go k′ d′ (of-table x) = absurd (free k′ d′ x)
-      go k′ d′ (of-root i q e z x) = absurd (clash (r i q) x)
+      go k′ d′ (of-root i q e z x) = absurd (a-node t i (r i q) x)
       go k′ d′ (of-room e z g) = rw (at-room 7 (answerOf (m .said)) refl, at-room k′ d′ e) (omega arith)
 
   -- ---- from the verdict
@@ -174,7 +183,7 @@ module _ (a : Asked) (m : Matter) where
 
   free-none : Free → (k d : ℕ) → Holds a m k d → ⊥
   free-none f k d (of-table b) = f .none k d b
-  free-none f k d (of-root i r e z b) = clash (f .root i r) b
+  free-none f k d (of-root i r e z b) = a-node t i (f .root i r) b
   free-none f k d (of-room e z h) = omega (arith, f .room)
 
   least-of : (k d : ℕ) → First a m k d → Broken t n (m .message) k d → Least t n (m .message) k d

@@ -3,17 +3,16 @@
 -- Assumes nothing.
 use Prim.Native.Nat.{ℕ, _+_, _-_, _≤_, _<_}
 use mathlib.Core.Path.{_≡_, refl, sym, ap, _∙_}
-use mathlib.Core.Bool.{Bool, true, false, cond, not, _&&_, _||_}
+use mathlib.Core.Bool.{Bool, true, false, cond, _&&_, _||_}
 use mathlib.Core.List.{List, [], _∷_, _++_, map, map-append, append-nil, append-assoc}
 use mathlib.Core.Logic.{⊎-elim}
 use mathlib.Core.Option.{Option, none, some}
 use native.Mathlib.Omega.{arith}
-use borrow.Author.Tests.{eq-eqb, ne-eqb, eqb-true, eqb-false, leb-true, lt-ltb, le-ltb, le-leb, lt-leb}
-use lib.Dec.{leb, ltb, eqb}
+use borrow.Author.Tests.{eq-eqb, ne-eqb, lt-ltb, le-ltb, le-leb, lt-leb}
+use lib.Dec.{ltb, eqb}
 use Rattle.table.specs.declared.record.Rec.{Rec}
-use Rattle.table.specs.Table.{recordAt, records, part}
-use Rattle.table.specs.Forest.{Forest, nil, token, node, kids, stretchEnd}
-use Rattle.table.specs.Text.{bytesOf, text, says}
+use Rattle.table.specs.Table.{recordAt, records}
+use Rattle.table.specs.Forest.{Forest, nil, token, node, kids}
 use Rattle.table.proofs.Laws.{lt-or-le}
 use Rattle.scope.specs.declared.scope.Range.{Range}
 use Rattle.scope.specs.declared.scope.NameBinding.{NameBinding}
@@ -24,13 +23,12 @@ use Rattle.scope.specs.declared.scope.Pending.{Pending}
 use Rattle.scope.specs.declared.scope.Pending.the-variants.{Nothing, Held}
 use Rattle.scope.specs.declared.scope.Enclosing.{Enclosing}
 use Rattle.scope.specs.declared.scope.Enclosing.the-variants.{Outside, Record}
-use Rattle.scope.specs.Names.{absent, span, byteAt, isAs, isPart, isName, direct, isMark, unquoted, nameOf, firstOf, lastOf, withItem, aliasIn, binding as bind}
+use Rattle.scope.specs.Names.{span, byteAt, isAs, isPart, isName, direct, unquoted, nameOf, firstOf, lastOf, withItem, aliasIn, binding as bind}
 use Rattle.scope.specs.Scope.{entered, collected, collection, entry, gathered, withItems, selectAliases, fresh, aliased, Listing, handOn, listAlias, reading, references, aliases, ownWith, ownColumns, ownTables}
 use Rattle.scope.specs.Statement.{holds, itself, isStatement, orElse, firstFind, enclosingAt}
 use Rattle.scope.proofs.Counts.{decide}
-use Rattle.cursor.specs.Path.{oneOf}
 use Rattle.demands.specs.Rust.{push}
-use Rattle.demands.specs.ScopeRs.{Str, at, stopsAt, Binding, Reference, QueryScope, pushCte, pushTableAlias, pushColumnAlias, pushTableRef, startsWith, endsWith, inner, unquote, saysAs, bindingOf, «extract_cte», Ident, «extract_alias_name», parts, byParts, «extract_table_identifier», pushIfCte, «collect_ctes», flush, setAlias, pushAlias, «collect_table_refs», pushIfAlias, «collect_column_aliases», arms, eachChild, «collect_scope», «build_scope», isStatementKind, orReturn, enclosing, deeperStatement, «find_enclosing_statement», rangeOf, rangeOr, binding, reference, found, ScopeRs}
+use Rattle.demands.specs.ScopeRs.{Str, at, stopsAt, Binding, Reference, QueryScope, pushCte, pushTableAlias, pushColumnAlias, pushTableRef, startsWith, endsWith, inner, unquote, saysAs, bindingOf, «extract_cte», Ident, «extract_alias_name», parts, byParts, «extract_table_identifier», pushIfCte, «collect_ctes», flush, setAlias, pushAlias, «collect_table_refs», pushIfAlias, «collect_column_aliases», arms, eachChild, «collect_scope», «build_scope», isStatementKind, orReturn, enclosing, deeperStatement, rangeOf, rangeOr, binding, reference, found, ScopeRs}
 use Rattle.demands.proofs.KindLists.{range-list}
 
 -- ---- names

@@ -3,8 +3,7 @@
 use Prim.Native.Nat.{ℕ, zero, suc, _+_, _-_, _≤_, _<_}
 use mathlib.Core.Path.{_≡_, refl, sym, ap, _∙_}
 use mathlib.Core.Bool.{Bool, true, false, cond, not, _&&_, _||_}
-use mathlib.Core.List.{List, [], _∷_, _++_, map, append-nil, append-assoc}
-use mathlib.Core.Logic.{⊎-elim}
+use mathlib.Core.List.{List, [], _∷_, _++_, append-nil, append-assoc}
 use mathlib.Core.Option.{Option, none, some}
 use native.Mathlib.Omega.{arith}
 use borrow.Author.Tests.{ltb-true, le-leb, leb-false}
@@ -16,7 +15,6 @@ use Rattle.table.specs.Kinds.{isNode, lastNode}
 use Rattle.table.specs.Table.{count, kindAt, startAt, recordAt, run, from, records}
 use Rattle.table.specs.Forest.{Forest, nil, token, node, level, kids}
 use Rattle.table.specs.Rules.{verdict}
-use Rattle.table.specs.Exactly.{Token}
 use Rattle.table.specs.Sense.{Tidy, Linked, inOrder, byDepth, treeOf}
 use Rattle.table.specs.Text.{text}
 use Rattle.scope.specs.declared.semantic_tokens.TokenClass.{TokenClass}
@@ -27,9 +25,9 @@ use Rattle.scope.specs.Classes.{classesOf, between, judged, bareword, byParent,
 use Rattle.table.proofs.Sense.{admitted-tidy, whole-tree}
 use Rattle.scope.proofs.KeywordLaws.{not-keyword}
 use Rattle.cursor.specs.Path.{oneOf}
-use Rattle.demands.specs.Rust.{push}
 use Rattle.demands.specs.SemanticTokensRs.{«is_keyword», «classify_identifier_by_parent», tables, «classify_bareword», operators, «classify_token», pushClass, «collect_tokens», insert, sortByStart, compute, SemanticTokensRs}
 use Rattle.demands.proofs.KindLists.{kindsFrom, range-list}
+use Rattle.demands.proofs.Starts.{later}
 
 -- a class as the Rust tells it
 unfoldable numbered : TokenClass → Option ℕ
@@ -249,22 +247,13 @@ module _ (source : List ℕ) where
     tidy : Tidy t (length source)
     tidy = admitted-tidy t (length source) 0 ok
 
-    token-of : (i : ℕ) → i < count t → lastNode < kindAt t i → Token (kindAt t i)
-    token-of i h k = ⊎-elim (λ n. absurd (omega arith)) (λ x. x) (tidy .kinds i h)
-
     run-ascending : (n i b : ℕ) → i + n ≡ count t → ((j : ℕ) → i ≤ j → j < count t → lastNode < kindAt t j → b ≤ startAt t j)
         → Ascending b (byDepth t (run t 0 i n))
     unfolding run byDepth Ascending recordAt
     run-ascending zero i b z h = tt
     run-ascending (suc n) i b z h =
-        (h i (omega arith) (omega arith), go (isNode (kindAt t i)) refl (run-ascending n (i + 1) b (omega arith) (λ j x y k. h j (omega arith) y k)) (λ k. run-ascending n (i + 1) (startAt t i) (omega arith) (later k)))
+        (h i (omega arith) (omega arith), go (isNode (kindAt t i)) refl (run-ascending n (i + 1) b (omega arith) (λ j x y k. h j (omega arith) y k)) (λ k. run-ascending n (i + 1) (startAt t i) (omega arith) (λ j x y g. later tidy i j (omega arith) y k g)))
       where
-        later : lastNode < kindAt t i → (j : ℕ) → i + 1 ≤ j → j < count t → lastNode < kindAt t j → startAt t i ≤ startAt t j
-        later k j x y g =
-            let a = tidy .order i j (omega arith) y (token-of i (omega arith) k) (token-of j y g) in
-            let s = tidy .spans i (omega arith) (token-of i (omega arith) k) in
-            omega (arith, a, s .0)
-
         go : (c : Bool) → isNode (kindAt t i) ≡ c → Ascending b (byDepth t (run t 0 (i + 1) n)) → (lastNode < kindAt t i → Ascending (startAt t i) (byDepth t (run t 0 (i + 1) n)))
             → Ascending (cond c b (startAt t i)) (byDepth t (run t 0 (i + 1) n))
         go true e x y = x

@@ -6,13 +6,13 @@
 use Prim.Native.Nat.{ℕ, zero, suc, _+_, _-_, _≤_, _<_}
 use mathlib.Core.Path.{_≡_, refl, sym, ap, _∙_}
 use mathlib.Core.Bool.{Bool, true, false, cond}
-use mathlib.Core.List.{List, [], _∷_}
+use mathlib.Core.List.{List}
 use mathlib.Core.Logic.{⊎-elim}
 use native.Mathlib.Omega.{arith}
 use native.Mathlib.Nat.{zero-add}
 use Rattle.table.specs.declared.record.Rec.{Rec}
 use Rattle.table.specs.Kinds.{lastNode}
-use Rattle.table.specs.Table.{count, kindAt, depthAt, startAt, recordAt, run, from, records}
+use Rattle.table.specs.Table.{count, kindAt, depthAt, startAt, recordAt, run, from}
 use Rattle.table.specs.Forest.{Forest, nil, token, node, level, kids}
 use Rattle.table.specs.Exactly.{Token}
 use Rattle.table.specs.Sense.{Tidy}
@@ -44,99 +44,101 @@ module _ {S : Type 0} (step : S → Rec → S) (counts enters : Rec → Bool) (b
       go true p q = q _ ∙ p
       go false p q = q s
 
-module _ (t : List ℕ) where
-  -- ---- what is below a node
+-- what is below a node is what the table has inside it
+unfoldable pub Rooted : List ℕ → Forest → Type 0
+Rooted t nil = Unit
+Rooted t (token r rest) = Rooted t rest
+Rooted t (node r below rest) = (below ≡ inside t (r .index)) × Rooted t below × Rooted t rest
 
-  unfoldable pub Rooted : Forest → Type 0
-  Rooted nil = Unit
-  Rooted (token r rest) = Rooted rest
-  Rooted (node r below rest) = (below ≡ inside t (r .index)) × Rooted below × Rooted rest
+-- ---- one law for what is so of every level
 
+module _ (t : List ℕ) (P : ℕ → Forest → Type 0)
+    (at-end : (i : ℕ) → P i nil)
+    (over : (i : ℕ) (f : Forest) → P (i + 1) f → P i f)
+    (at-token : (i : ℕ) (f : Forest) → i < count t → lastNode < kindAt t i → P (i + 1) f → P i (token (recordAt t 0 i) f))
+    (at-node : (i : ℕ) (below f : Forest) → i < count t → below ≡ inside t i → P (i + 1) below → P (i + 1) f → P i (node (recordAt t 0 i) below f)) where
   inside-is : (i k : ℕ) → i < count t → depthAt t i ≡ k → level (k + 1) (run t 0 (i + 1) (count t - (i + 1))) ≡ inside t i
   unfolding kids recordAt from
   inside-is i k h e = rw (from-cons t 0 i h, e)
 
-  level-rooted : (n i k : ℕ) → n ≡ count t - i → Rooted (level k (run t 0 i n))
-  unfolding run level Rooted recordAt
-  level-rooted zero i k e = tt
-  level-rooted (suc n) i k e =
+  level-all : (n i k : ℕ) → n ≡ count t - i → P i (level k (run t 0 i n))
+  unfolding run level recordAt
+  level-all zero i k e = at-end i
+  level-all (suc n) i k e =
       let m : n ≡ count t - (i + 1) = omega arith in
       ⊎-elim
-      (λ h. rw (level-shallow k (recordAt t 0 i) (run t 0 (i + 1) n) h) tt)
+      (λ (h : depthAt t i < k). rw (level-shallow k (recordAt t 0 i) (run t 0 (i + 1) n) h) (at-end i))
       (λ (h : k ≤ depthAt t i).
       ⊎-elim
-      (λ g. rw (level-deep k (recordAt t 0 i) (run t 0 (i + 1) n) g) (level-rooted n (i + 1) k m))
+      (λ (g : k < depthAt t i). rw (level-deep k (recordAt t 0 i) (run t 0 (i + 1) n) g) (over i (level k (run t 0 (i + 1) n)) (level-all n (i + 1) k m)))
       (λ (g : depthAt t i ≤ k).
+      let d : depthAt t i ≡ k = omega arith in
       ⊎-elim
-      (λ l.
-      rw (level-node k (recordAt t 0 i) (run t 0 (i + 1) n) (omega arith) l, zero-add i)
-      (ap (λ (c : ℕ). level (k + 1) (run t 0 (i + 1) c)) m ∙ inside-is i k (omega arith) (omega arith), level-rooted n (i + 1) (k + 1) m, level-rooted n (i + 1) k m))
-      (λ l. rw (level-token k (recordAt t 0 i) (run t 0 (i + 1) n) (omega arith) l) (level-rooted n (i + 1) k m))
+      (λ (l : kindAt t i ≤ lastNode).
+      rw (level-node k (recordAt t 0 i) (run t 0 (i + 1) n) d l)
+      (at-node i (level (k + 1) (run t 0 (i + 1) n)) (level k (run t 0 (i + 1) n)) (omega arith)
+      (ap (λ (c : ℕ). level (k + 1) (run t 0 (i + 1) c)) m ∙ inside-is i k (omega arith) d) (level-all n (i + 1) (k + 1) m) (level-all n (i + 1) k m)))
+      (λ (l : lastNode < kindAt t i).
+      rw (level-token k (recordAt t 0 i) (run t 0 (i + 1) n) d l) (at-token i (level k (run t 0 (i + 1) n)) (omega arith) l (level-all n (i + 1) k m)))
       (node-or-token (kindAt t i)))
       (lt-or-le k (depthAt t i)))
       (lt-or-le (depthAt t i) k)
 
-  -- ---- where tokens start
-
-  level-since : (n i k b : ℕ) → n ≡ count t - i → ((j : ℕ) → i ≤ j → j < count t → lastNode < kindAt t j → b ≤ startAt t j) → Since b (level k (run t 0 i n))
-  unfolding run level Since recordAt
-  level-since zero i k b e w = tt
-  level-since (suc n) i k b e w =
-      let m : n ≡ count t - (i + 1) = omega arith in
-      let v : (j : ℕ) → i + 1 ≤ j → j < count t → lastNode < kindAt t j → b ≤ startAt t j = λ j p q l. w j (omega arith) q l in
+  pub inside-all : (i : ℕ) → P (i + 1) (inside t i)
+  unfolding kids from
+  inside-all i =
       ⊎-elim
-      (λ h. rw (level-shallow k (recordAt t 0 i) (run t 0 (i + 1) n) h) tt)
-      (λ (h : k ≤ depthAt t i).
-      ⊎-elim
-      (λ g. rw (level-deep k (recordAt t 0 i) (run t 0 (i + 1) n) g) (level-since n (i + 1) k b m v))
-      (λ (g : depthAt t i ≤ k).
-      ⊎-elim
-      (λ l. rw (level-node k (recordAt t 0 i) (run t 0 (i + 1) n) (omega arith) l) (level-since n (i + 1) (k + 1) b m v, level-since n (i + 1) k b m v))
-      (λ l. rw (level-token k (recordAt t 0 i) (run t 0 (i + 1) n) (omega arith) l) (w i (omega arith) (omega arith) l, level-since n (i + 1) k b m v))
-      (node-or-token (kindAt t i)))
-      (lt-or-le k (depthAt t i)))
-      (lt-or-le (depthAt t i) k)
-
-  module _ {m : ℕ} (tidy : Tidy t m) where
-    token-of : (i : ℕ) → i < count t → lastNode < kindAt t i → Token (kindAt t i)
-    token-of i h k = ⊎-elim (λ n. absurd (omega arith)) (λ x. x) (tidy .kinds i h)
-
-    later : (i j : ℕ) → i + 1 ≤ j → i < count t → j < count t → lastNode < kindAt t i → lastNode < kindAt t j → startAt t i ≤ startAt t j
-    later i j p h g k l =
-        omega (arith, tidy .order i j (omega arith) g (token-of i h k) (token-of j g l), tidy .spans i h (token-of i h k) .0)
-
-    level-rises : (n i k : ℕ) → n ≡ count t - i → Rises (level k (run t 0 i n))
-    unfolding run level Rises recordAt
-    level-rises zero i k e = tt
-    level-rises (suc n) i k e =
-        let m : n ≡ count t - (i + 1) = omega arith in
-        ⊎-elim
-        (λ h. rw (level-shallow k (recordAt t 0 i) (run t 0 (i + 1) n) h) tt)
-        (λ (h : k ≤ depthAt t i).
-        ⊎-elim
-        (λ g. rw (level-deep k (recordAt t 0 i) (run t 0 (i + 1) n) g) (level-rises n (i + 1) k m))
-        (λ (g : depthAt t i ≤ k).
-        ⊎-elim
-        (λ l. rw (level-node k (recordAt t 0 i) (run t 0 (i + 1) n) (omega arith) l) (level-rises n (i + 1) (k + 1) m, level-rises n (i + 1) k m))
-        (λ l.
-        rw (level-token k (recordAt t 0 i) (run t 0 (i + 1) n) (omega arith) l)
-        (level-since n (i + 1) k (startAt t i) m (λ j p q x. later i j p (omega arith) q l x), level-rises n (i + 1) k m))
-        (node-or-token (kindAt t i)))
-        (lt-or-le k (depthAt t i)))
-        (lt-or-le (depthAt t i) k)
-
-    pub inside-rises : (i : ℕ) → Rises (inside t i)
-    unfolding kids from Rises
-    inside-rises i =
-        ⊎-elim
-        (λ h. rw (from-cons t 0 i h) (level-rises (count t - (i + 1)) (i + 1) _ refl))
-        (λ h. rw (from-end t 0 i h) tt)
-        (lt-or-le i (count t))
-
-  pub inside-rooted : (i : ℕ) → Rooted (inside t i)
-  unfolding kids from Rooted
-  inside-rooted i =
-      ⊎-elim
-      (λ h. rw (from-cons t 0 i h) (level-rooted (count t - (i + 1)) (i + 1) _ refl))
-      (λ h. rw (from-end t 0 i h) tt)
+      (λ h. rw (from-cons t 0 i h) (level-all (count t - (i + 1)) (i + 1) _ refl))
+      (λ h. rw (from-end t 0 i h) (at-end (i + 1)))
       (lt-or-le i (count t))
+
+-- ---- the trees of an admitted table
+
+module _ {t : List ℕ} {n : ℕ} (tidy : Tidy t n) where
+  token-of : (i : ℕ) → i < count t → lastNode < kindAt t i → Token (kindAt t i)
+  token-of i h k = ⊎-elim (λ x. absurd (omega arith)) (λ x. x) (tidy .kinds i h)
+
+  -- a later token starts no earlier
+  pub later : (i j : ℕ) → i < j → j < count t → lastNode < kindAt t i → lastNode < kindAt t j → startAt t i ≤ startAt t j
+  later i j p g k l =
+      omega (arith, tidy .order i j p g (token-of i (omega arith) k) (token-of j g l), tidy .spans i (omega arith) (token-of i (omega arith) k) .0)
+
+  -- of what stands from record i on
+  record Sound (i : ℕ) (f : Forest) : Type 0 where
+    rooted : Rooted t f
+    rises : Rises f
+    since : (b : ℕ) → ((j : ℕ) → i ≤ j → j < count t → lastNode < kindAt t j → b ≤ startAt t j) → Since b f
+
+  at-end : (i : ℕ) → Sound i nil
+  unfolding Rooted Rises Since
+  at-end i = record { rooted = tt; rises = tt; since = λ b w. tt }
+
+  over : (i : ℕ) (f : Forest) → Sound (i + 1) f → Sound i f
+  over i f s = record { rooted = s .rooted; rises = s .rises; since = λ b w. s .since b (λ j p q k. w j (omega arith) q k) }
+
+  at-token : (i : ℕ) (f : Forest) → i < count t → lastNode < kindAt t i → Sound (i + 1) f → Sound i (token (recordAt t 0 i) f)
+  unfolding Rooted Rises Since recordAt
+  at-token i f h k s =
+      record {
+        rooted = s .rooted;
+        rises = (s .since (startAt t i) (λ j p q l. later i j (omega arith) q k l), s .rises);
+        since = λ b w. (w i (omega arith) h k, s .since b (λ j p q l. w j (omega arith) q l));
+      }
+
+  at-node : (i : ℕ) (below f : Forest) → i < count t → below ≡ inside t i → Sound (i + 1) below → Sound (i + 1) f → Sound i (node (recordAt t 0 i) below f)
+  unfolding Rooted Rises Since recordAt
+  at-node i below f h e x y =
+      record {
+        rooted = (e ∙ ap (inside t) (sym (zero-add i)), x .rooted, y .rooted);
+        rises = (x .rises, y .rises);
+        since = λ b w. (x .since b (λ j p q l. w j (omega arith) q l), y .since b (λ j p q l. w j (omega arith) q l));
+      }
+
+  sound : (i : ℕ) → Sound (i + 1) (inside t i)
+  sound = inside-all t Sound at-end over at-token at-node
+
+  pub inside-rises : (i : ℕ) → Rises (inside t i)
+  inside-rises i = sound i .rises
+
+  pub inside-rooted : (i : ℕ) → Rooted t (inside t i)
+  inside-rooted i = sound i .rooted

@@ -3,25 +3,28 @@
 -- Definitions only; it is a contract of `ask` (src/lib.rt), and proofs/Replies.antt says why it holds.
 use Prim.Native.Nat.{ℕ, _+_, _*_, _≤_, _<_}
 use mathlib.Core.Path.{_≡_}
-use mathlib.Core.Bool.{true, cond}
+use mathlib.Core.Bool.{cond}
 use mathlib.Core.List.{List}
 use mathlib.Core.Logic.{_⊎_, _↔_}
 use mathlib.Core.Option.{some}
 use lib.ListN.{length}
 use lib.Dec.{eqb}
-use Rattle.table.specs.Table.{count}
-use Rattle.table.specs.Rules.{noRoot}
-use Rattle.table.specs.Exactly.{Broken, place}
+use Rattle.table.specs.Table.{count, kindAt}
+use Rattle.table.specs.Exactly.{Node, Broken, place}
 use Rattle.desk.specs.Reply.{packed, answered}
 use Rattle.demands.specs.declared.Question.{Question}
-use Rattle.demands.specs.Questions.{Asked, Said, Matter, matter, answerOf, bytesOf}
+use Rattle.demands.specs.Questions.{Asked, Matter, matter, answerOf, bytesOf}
 
 -- ---- the conditions
+
+-- record i is no node of the table
+abbrev pub NoNode : List ℕ → ℕ → Type 0
+NoNode t i = i < count t → Node (kindAt t i) → ⊥
 
 -- condition k holds with detail d: 1 to 6 of the table, the source and the message; 8 of the root that is named; 7 of the room for the list
 pub data Holds (a : Asked) (m : Matter) (k d : ℕ) : Type 0 where
   of-table : Broken (a .table) (length (a .source)) (m .message) k d → Holds a m k d
-  of-root : (i : ℕ) → m .root ≡ some i → k ≡ 8 → d ≡ 0 → noRoot (a .table) i ≡ true → Holds a m k d
+  of-root : (i : ℕ) → m .root ≡ some i → k ≡ 8 → d ≡ 0 → NoNode (a .table) i → Holds a m k d
   of-room : k ≡ 7 → d ≡ answerOf (m .said) → length (a .out) < length (bytesOf (m .said)) → Holds a m k d
 
 -- the place of condition k with detail d in the order, where the table has c records: 1, 2, then record by record 3, 4, 5, 6, then 8, then 7

@@ -3,7 +3,7 @@
 -- The theorem is `spring` in proofs/Spring.antt; the frame of that morning is computed below.
 use Prim.Native.Nat.{ℕ}
 use mathlib.Core.Path.{_≡_, refl}
-use mathlib.Core.List.{List, [], _∷_, _++_, map}
+use mathlib.Core.List.{List, [], _∷_, _++_}
 use lib.ListN.{length}
 use Rattle.table.specs.declared.record.Rec.{Rec}
 use Rattle.table.specs.declared.check.Verdict.the-variants.{Admitted}
