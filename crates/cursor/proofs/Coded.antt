@@ -11,7 +11,8 @@ use Rattle.cursor.specs.declared.cursor_context.Name.{Name}
 use Rattle.cursor.specs.declared.cursor_context.Name.the-variants.{Nameless, Named}
 use Rattle.cursor.specs.declared.cursor_context.CursorContext.{CursorContext}
 use Rattle.cursor.specs.declared.cursor_context.CursorContext.the-variants.{SelectExpression, TableReference, ColumnOfTable, Expression, SettingName, EngineName, FormatName, DataType, CodecName, FunctionArgument, StatementStart, Unknown}
-use Rattle.cursor.specs.Context.{Coded, rangeOf, referenceNumber, coded, Starts, Ranged}
+use Rattle.cursor.specs.declared.context_code.Coded.{Coded}
+use Rattle.cursor.specs.Context.{rangeOf, referenceNumber, coded, Starts, Ranged}
 
 -- the context that has this number and these values
 decoded : Coded → CursorContext

@@ -15,6 +15,7 @@ use Rattle.cursor.specs.declared.cursor_context.Name.{Name}
 use Rattle.cursor.specs.declared.cursor_context.Name.the-variants.{Nameless, Named}
 use Rattle.cursor.specs.declared.cursor_context.CursorContext.{CursorContext}
 use Rattle.cursor.specs.declared.cursor_context.CursorContext.the-variants.{SelectExpression, TableReference, ColumnOfTable, Expression, SettingName, EngineName, FormatName, DataType, CodecName, FunctionArgument, StatementStart, Unknown}
+use Rattle.cursor.specs.declared.context_code.Coded.{Coded}
 use Rattle.cursor.specs.declared.cursor_context.Answer.{Answer}
 use Rattle.cursor.specs.declared.cursor_context.Answer.the-variants.{GoOn, Given}
 use Rattle.cursor.specs.declared.cursor_context.ContextReply.{ContextReply}
@@ -55,18 +56,13 @@ contextReply (Refused k d) c = Denied k d
 
 -- ---- the numbers and values of the contexts
 
--- a context's number, its name's range, and its argument index
-pub record Coded : Type 0 where
-  pub number : ℕ
-  pub name : Range
-  pub index : ℕ
-
 -- 4294967295 twice where there is no name
 unfoldable pub rangeOf : Name → Range
 rangeOf Nameless = record { start = 4294967295; end = 4294967295 }
 rangeOf (Named r) = r
 
-abbrev code : ℕ → Name → ℕ → Coded
+-- a context's number, its name's range, and its argument index
+abbrev pub code : ℕ → Name → ℕ → Coded
 code n name i = record { number = n; name = rangeOf name; index = i }
 
 -- a table reference has one number without a prefix and another with one

@@ -16,7 +16,8 @@ use Rattle.cursor.specs.LastToken.{lastOr, init, lastTwo, isText, isWord
 use Rattle.cursor.specs.Function.{bareWordIn, orName, functionName, argued, arguments}
 use Rattle.cursor.specs.Trailing.{lastClause, pastClause, pastEnd, trailingIn}
 use Rattle.cursor.specs.PathRules.{nextOf, isDeepest, deepestOver, tableReference, joined, functionArgument, columnOr, column, pathRules, ruled, orElse, byPath}
-use Rattle.cursor.specs.Context.{startsAfter, lastRule, givenOr, contextAt, Coded, rangeOf, referenceNumber, coded}
+use Rattle.cursor.specs.declared.context_code.Coded.{Coded}
+use Rattle.cursor.specs.Context.{startsAfter, lastRule, givenOr, contextAt, rangeOf, referenceNumber, coded}
 
 -- ---- a case: a source, a table, an offset; the context's number, the name's range, the argument's index
 

@@ -12,9 +12,8 @@ use Rattle.scope.specs.declared.bracket_matching.HintReply.{HintReply}
 use Rattle.scope.specs.declared.bracket_matching.HintReply.the-variants.{Hinted, Refused as Unhinted}
 use Rattle.scope.specs.declared.scope.StatementReply.{StatementReply}
 use Rattle.scope.specs.declared.scope.StatementReply.the-variants.{Statement, NoStatement, Refused as Unstated}
-use Rattle.cursor.specs.declared.cursor_context.Name.{Name}
 use Rattle.cursor.specs.declared.cursor_context.CursorContext.{CursorContext}
-use Rattle.cursor.specs.Context.{rangeOf, coded}
+use Rattle.cursor.specs.Context.{coded}
 use Rattle.cursor.specs.declared.scope_at_cursor.RootReply.{RootReply}
 use Rattle.cursor.specs.declared.scope_at_cursor.RootReply.the-variants.{Root, Refused as Unrooted}
 
@@ -67,14 +66,6 @@ unfoldable pub rootNumber : RootReply → ℕ
 rootNumber (Root n) = packed answered n
 rootNumber (Unrooted k d) = packed k d
 
--- the numbers of a context in its entry
-abbrev pub codeRow : ℕ → ℕ → ℕ → ℕ → List ℕ
-codeRow number start end index = number ∷ start ∷ end ∷ index ∷ []
-
--- the same with a name, or none
-abbrev pub nameRow : ℕ → Name → ℕ → List ℕ
-nameRow number name index = codeRow number (rangeOf name .start) (rangeOf name .end) index
-
 -- the entry of a context: its number, its name's range and its argument index
 unfoldable pub contextRow : CursorContext → List ℕ
-contextRow c = codeRow (coded c .number) (coded c .name .start) (coded c .name .end) (coded c .index)
+contextRow c = coded c .number ∷ coded c .name .start ∷ coded c .name .end ∷ coded c .index ∷ []

@@ -3,9 +3,9 @@ use crate::ANSWERED;
 use crate::NONE;
 use crate::list_reply;
 use crate::packed;
+use cursor::context_code::code_of;
 use cursor::cursor_context::ContextReply;
 use cursor::cursor_context::CursorContext;
-use cursor::cursor_context::Name;
 use cursor::cursor_context::cursor_context;
 use cursor::scope_at_cursor::RootReply;
 use cursor::scope_at_cursor::column_aliases_at;
@@ -24,10 +24,9 @@ ghost use Rattle.table.specs.Rules.{rules, verdict};
 ghost use Rattle.table.specs.Lists.{listed, lent};
 ghost use Rattle.scope.specs.ScopeQuestions.{bindingRow, referenceRow, withNames, tableAliases, columnAliases, tableRefs};
 ghost use Rattle.scope.specs.Statement.{enclosingAt, statementReply};
-ghost use Rattle.cursor.specs.declared.cursor_context.CursorContext.the-variants.{TableReference};
 ghost use Rattle.cursor.specs.Context.{contextAt};
 ghost use Rattle.cursor.specs.Root.{rootAt, rootReply};
-ghost use Rattle.desk.specs.Reply.{listReply, statementNumber, rootNumber, codeRow, nameRow, contextRow};
+ghost use Rattle.desk.specs.Reply.{listReply, statementNumber, rootNumber, contextRow};
 
 fn statement_number(s: StatementReply) -> u64
     ensures { λ r. ⌜ r ≡ statementNumber s ⌝ }
@@ -120,78 +119,18 @@ pub extern "C" fn desk_table_refs_at(
     list_reply(table_refs_at(table, source, offset as usize, out))
 }
 
-// A context's numbers: its own, its name's range and its argument index.
-struct Code {
-    number: usize,
-    start: usize,
-    end: usize,
-    index: usize,
-}
-
-// The start and the end of an absent range.
-const ABSENT: usize = 4294967295;
-
 // How many bytes a context takes.
 const CONTEXT_BYTES: usize = 16;
-
-fn name_code(number: usize, name: Name, index: usize) -> Code
-    ensures { λ r. ⌜ codeRow (r .number) (r .start) (r .end) (r .index) ≡ nameRow number name index ⌝ }
-{
-    match name {
-        Name::Named(r) => Code {
-            number: number,
-            start: r.start,
-            end: r.end,
-            index: index,
-        },
-        Name::Nameless => Code {
-            number: number,
-            start: ABSENT,
-            end: ABSENT,
-            index: index,
-        },
-    }
-}
-
-fn reference_code(prefix: Name) -> Code
-    ensures { λ r. ⌜ codeRow (r .number) (r .start) (r .end) (r .index) ≡ contextRow (TableReference prefix) ⌝ }
-{
-    match prefix {
-        Name::Named(r) => name_code(2, Name::Named(r), 0),
-        Name::Nameless => name_code(1, Name::Nameless, 0),
-    }
-}
-
-fn context_code(c: CursorContext) -> Code
-    ensures { λ r. ⌜ codeRow (r .number) (r .start) (r .end) (r .index) ≡ contextRow c ⌝ }
-{
-    match c {
-        CursorContext::SelectExpression => name_code(0, Name::Nameless, 0),
-        CursorContext::TableReference { database_prefix } => reference_code(database_prefix),
-        CursorContext::ColumnOfTable { qualifier } => name_code(3, Name::Named(qualifier), 0),
-        CursorContext::Expression => name_code(4, Name::Nameless, 0),
-        CursorContext::SettingName => name_code(5, Name::Nameless, 0),
-        CursorContext::EngineName => name_code(6, Name::Nameless, 0),
-        CursorContext::FormatName => name_code(7, Name::Nameless, 0),
-        CursorContext::DataType => name_code(8, Name::Nameless, 0),
-        CursorContext::CodecName => name_code(9, Name::Nameless, 0),
-        CursorContext::FunctionArgument {
-            function_name,
-            argument_index,
-        } => name_code(10, function_name, argument_index),
-        CursorContext::StatementStart => name_code(11, Name::Nameless, 0),
-        CursorContext::Unknown => name_code(12, Name::Nameless, 0),
-    }
-}
 
 fn list_context(c: CursorContext, out: &mut [u8]) -> Listed
     ensures { λ r. ⌜ (r ≡ listed [] contextRow (c ∷ []) (now (out .entry))) × (now (out .exit) ≡ lent [] contextRow (c ∷ []) (now (out .entry))) ⌝ }
 {
-    let k = context_code(c);
+    let k = code_of(c);
+    let name = k.name;
     if out.len() < CONTEXT_BYTES {
         return Listed::Refused(7, 1);
     }
-    let entry = [k.number, k.start, k.end, k.index];
+    let entry = [k.number, name.start, name.end, k.index];
     put_entry(out, 0, &entry);
     Listed::Entries(1)
 }

@@ -1,6 +1,7 @@
 -- How the writes of a walk follow each other, and what a question makes of them. Nothing here knows what is written.
 --     written-none, written-one     nothing; one entry
 --     written-then                  one run of entries after another
+--     fill-sets, written-whole      all of them where they have room
 --     writing                       a walk's `rest`: what the buffer and the next place will be
 --     writing-turn, writing-last    some of it is written; the last of it is
 --     writing-step, writing-end     the same where what is left to write keeps its form
@@ -29,12 +30,12 @@ use Rattle.table.specs.Rules.{Rule, first}
 use Rattle.table.specs.Lists.{numberBytes, le4, rowBytes, listBytes, roomRule, listVerdict, reply, buffer, listed, lent, put, fill, Written}
 use Rattle.table.proofs.Checks.{then-refused, then-admitted}
 
-length-row : (vs : List ℕ) → length (rowBytes vs) ≡ numberBytes * length vs
+pub length-row : (vs : List ℕ) → length (rowBytes vs) ≡ numberBytes * length vs
 unfolding rowBytes
 length-row [] = refl
 length-row (v ∷ vs) = omega (arith, length-row vs)
 
-sets-append : (xs ys l : List ℕ) (i : ℕ) → sets (sets l i xs) (i + length xs) ys ≡ sets l i (xs ++ ys)
+pub sets-append : (xs ys l : List ℕ) (i : ℕ) → sets (sets l i xs) (i + length xs) ys ≡ sets l i (xs ++ ys)
 sets-append [] ys l i = rw (add-zero i)
 sets-append (x ∷ xs) ys l i =
     let e : i + suc (length xs) ≡ suc i + length xs = omega arith in
@@ -108,7 +109,7 @@ module _ {E : Type 0} (row : E → List ℕ) where
   writing-end ans g {out} {out′} {at} {at′} z e = writing-last ans ans g (rw z (written-none out′ at′)) e
 
   -- ---- the bytes where all entries have room
-  fill-sets : (out : List ℕ) (at : ℕ) (es : List E) → at + length (listBytes row es) ≤ length out → fill row out at es ≡ sets out at (listBytes row es)
+  pub fill-sets : (out : List ℕ) (at : ℕ) (es : List E) → at + length (listBytes row es) ≤ length out → fill row out at es ≡ sets out at (listBytes row es)
   unfolding fill put listBytes
   fill-sets out at [] h = refl
   fill-sets out at (e ∷ es) h =
@@ -118,7 +119,7 @@ module _ {E : Type 0} (row : E → List ℕ) where
       (fill-sets (sets out at (rowBytes (row e))) (at + numberBytes * length (row e)) es (rw l (omega arith))
       ∙ rw (← length-row (row e)) (sets-append (rowBytes (row e)) (listBytes row es) out at))
 
-  written-whole : {es : List E} {out out′ : List ℕ} {m : ℕ} → Written row es out 0 out′ m → length (listBytes row es) ≤ length out
+  pub written-whole : {es : List E} {out out′ : List ℕ} {m : ℕ} → Written row es out 0 out′ m → length (listBytes row es) ≤ length out
       → out′ ≡ listBytes row es ++ drop (length (listBytes row es)) out
   written-whole {es} {out} w h =
       w .bytes ∙ fill-sets out 0 es (omega arith)

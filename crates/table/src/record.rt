@@ -22,7 +22,7 @@ fn wide(x: u8) -> usize
 }
 
 // The little-endian number in the four bytes from `at` on.
-fn word_at(t: &[u8], at: usize) -> usize
+pub fn word_at(t: &[u8], at: usize) -> usize
     requires { ⌜ at + 4 ≤ length (now t) ⌝ }
     ensures { λ r. ⌜ (r ≡ word (now (t .entry)) at) × (r < 4294967296) ⌝ }
 {

@@ -1,11 +1,11 @@
 use Rattle.cursor.specs.Context.{rangeOf}
 use borrow.Author.Needs.{needs}
-use Rattle.desk.proofs.at_cursor.name_code.Statement.{statement}
-use Rattle.desk.proofs.at_cursor.name_code.Tie as tie
+use Rattle.cursor.proofs.context_code.range_of.Statement.{statement}
+use Rattle.cursor.proofs.context_code.range_of.Tie as tie
 
-pub name-code-spec : {M : Type 1} → statement M
+pub range-of-spec : {M : Type 1} → statement M
 unfolding rangeOf
-name-code-spec =
+range-of-spec =
     tie.close
     (tie.spec
     (λ c. search needs)  -- enum-known-name

@@ -1,0 +1,71 @@
+// A context as numbers, for whoever hands it on: its own number, its name's range and its argument index.
+use crate::cursor_context::CursorContext;
+use crate::cursor_context::Name;
+use crate::cursor_context::Range;
+ghost use mathlib.Core.Path.{_≡_};
+ghost use Rattle.cursor.specs.Context.{rangeOf, referenceNumber, code, coded};
+
+// The start and the end of an absent range.
+const ABSENT: usize = 4294967295;
+
+pub struct Coded {
+    pub number: usize,
+    pub name: Range,
+    pub index: usize,
+}
+
+fn range_of(name: Name) -> Range
+    ensures { λ r. ⌜ r ≡ rangeOf name ⌝ }
+{
+    match name {
+        Name::Named(r) => r,
+        Name::Nameless => Range {
+            start: ABSENT,
+            end: ABSENT,
+        },
+    }
+}
+
+fn reference_number(prefix: Name) -> usize
+    ensures { λ r. ⌜ r ≡ referenceNumber prefix ⌝ }
+{
+    match prefix {
+        Name::Named(_) => 2,
+        Name::Nameless => 1,
+    }
+}
+
+fn code(number: usize, name: Name, index: usize) -> Coded
+    ensures { λ r. ⌜ r ≡ code number name index ⌝ }
+{
+    let range = range_of(name);
+    Coded {
+        number: number,
+        name: range,
+        index: index,
+    }
+}
+
+pub fn code_of(c: CursorContext) -> Coded
+    ensures { λ r. ⌜ r ≡ coded c ⌝ }
+{
+    match c {
+        CursorContext::SelectExpression => code(0, Name::Nameless, 0),
+        CursorContext::TableReference { database_prefix } => {
+            code(reference_number(database_prefix), database_prefix, 0)
+        }
+        CursorContext::ColumnOfTable { qualifier } => code(3, Name::Named(qualifier), 0),
+        CursorContext::Expression => code(4, Name::Nameless, 0),
+        CursorContext::SettingName => code(5, Name::Nameless, 0),
+        CursorContext::EngineName => code(6, Name::Nameless, 0),
+        CursorContext::FormatName => code(7, Name::Nameless, 0),
+        CursorContext::DataType => code(8, Name::Nameless, 0),
+        CursorContext::CodecName => code(9, Name::Nameless, 0),
+        CursorContext::FunctionArgument {
+            function_name,
+            argument_index,
+        } => code(10, function_name, argument_index),
+        CursorContext::StatementStart => code(11, Name::Nameless, 0),
+        CursorContext::Unknown => code(12, Name::Nameless, 0),
+    }
+}
