@@ -32,7 +32,7 @@ use Rattle.scope.specs.Statement.{told, statementReply}
 use Rattle.cursor.specs.Root.{rootReply}
 use Rattle.desk.specs.Reply.{packed, answered, verdictReply, listReply, hintRecord, hintReply, statementNumber, rootNumber}
 use Rattle.demands.specs.declared.Question.{Question}
-use Rattle.demands.specs.Questions.{Asked, Said, number, Matter, plain, ofRoot, list, statementRecord, matter, answerOf, bytesOf, written}
+use Rattle.demands.specs.Questions.{Asked, Said, number, Matter, plain, ofRoot, list, statementRecord, matter, answerOf, saidBytes, written}
 use Rattle.demands.specs.Demand1.{NoNode, Holds, of-table, of-root, of-room, placeIn, First, Refusal, Answer, Refuses, Demand1}
 use Rattle.demands.specs.Demand2.{Demand2}
 
@@ -68,7 +68,7 @@ rooted t (some i) = cond (noRoot t i) (Refused 8 0) Admitted
 
 -- 7
 unfoldable pub roomy : Said → List ℕ → Verdict
-roomy s out = cond (ltb (length out) (length (bytesOf s))) (Refused 7 (answerOf s)) Admitted
+roomy s out = cond (ltb (length out) (length (saidBytes s))) (Refused 7 (answerOf s)) Admitted
 
 unfoldable pub staged : Asked → Matter → Verdict
 staged a m = after (verdict (a .table) (length (a .source)) (m .message)) (after (rooted (a .table) (m .root)) (roomy (m .said) (a .out)))
@@ -136,7 +136,7 @@ module _ (a : Asked) (m : Matter) where
   abbrev Rooted : Type 0
   Rooted = (i : ℕ) → m .root ≡ some i → noRoot t i ≡ false
 
-  by-room : Nothing → Rooted → length (a .out) < length (bytesOf (m .said)) → First a m 7 (answerOf (m .said))
+  by-room : Nothing → Rooted → length (a .out) < length (saidBytes (m .said)) → First a m 7 (answerOf (m .said))
   by-room free r h = record { holds = of-room refl refl h; none-before = go }
     where
       go : (k′ d′ : ℕ) → Holds a m k′ d′ → at 7 (answerOf (m .said)) ≤ at k′ d′
@@ -149,7 +149,7 @@ module _ (a : Asked) (m : Matter) where
   record Free : Type 0 where
     none : Nothing
     root : Rooted
-    room : length (bytesOf (m .said)) ≤ length (a .out)
+    room : length (saidBytes (m .said)) ≤ length (a .out)
 
   -- what a verdict means
   Means : Verdict → Type 0
@@ -160,12 +160,12 @@ module _ (a : Asked) (m : Matter) where
   unfolding staged after Means roomy rooted
   staged-means = go (verdict t n (m .message)) refl
     where
-      on-room : Nothing → Rooted → (b : Bool) → ltb (length (a .out)) (length (bytesOf (m .said))) ≡ b → Means (cond b (Refused 7 (answerOf (m .said))) Admitted)
-      on-room free r true e = by-room free r (ltb-true (length (a .out)) (length (bytesOf (m .said))) e)
-      on-room free r false e = record { none = free; root = r; room = ltb-false (length (a .out)) (length (bytesOf (m .said))) e }
+      on-room : Nothing → Rooted → (b : Bool) → ltb (length (a .out)) (length (saidBytes (m .said))) ≡ b → Means (cond b (Refused 7 (answerOf (m .said))) Admitted)
+      on-room free r true e = by-room free r (ltb-true (length (a .out)) (length (saidBytes (m .said))) e)
+      on-room free r false e = record { none = free; root = r; room = ltb-false (length (a .out)) (length (saidBytes (m .said))) e }
 
       then-room : Nothing → Rooted → Means (roomy (m .said) (a .out))
-      then-room free r = on-room free r (ltb (length (a .out)) (length (bytesOf (m .said)))) refl
+      then-room free r = on-room free r (ltb (length (a .out)) (length (saidBytes (m .said)))) refl
 
       on-root : Nothing → (i : ℕ) → m .root ≡ some i → (b : Bool) → noRoot t i ≡ b → Means (after (cond b (Refused 8 0) Admitted) (roomy (m .said) (a .out)))
       on-root free i r true e = by-root free i r e
@@ -310,7 +310,7 @@ module _ (a : Asked) (message n : ℕ) where
   on = verdict (a .table) (length (a .source)) message
 
   number-stage : staged a saying ≡ on
-  unfolding staged rooted roomy bytesOf after
+  unfolding staged rooted roomy saidBytes after
   number-stage = rw (le-ltb (length (a .out)) 0 (omega arith)) (go on)
     where
       go : (v : Verdict) → after v (after Admitted Admitted) ≡ v
@@ -318,7 +318,7 @@ module _ (a : Asked) (message n : ℕ) where
       go (Refused k d) = refl
 
   number-bytes : (v : Verdict) → a .out ≡ buffer v (written (number n) (a .out)) (a .out)
-  unfolding buffer bytesOf
+  unfolding buffer saidBytes
   number-bytes Admitted = refl
   number-bytes (Refused k d) = refl
 
@@ -359,7 +359,7 @@ module _ (a : Asked) {E : Type 0} (row : E → List ℕ) (es : List E) where
 
   module _ (rs : List Rule) where
     list-stage : listVerdict rs row es (a .out) ≡ after (first rs) roomed
-    unfolding roomy bytesOf answerOf
+    unfolding roomy saidBytes answerOf
     list-stage = rw (rows-bytes row es, length-map es) (first-after rs (roomRule row es (a .out) ∷ []))
 
     list-packed : listReply (listed rs row es (a .out)) ≡ packing (after (first rs) roomed) (answerOf (list row es))
@@ -371,7 +371,7 @@ module _ (a : Asked) {E : Type 0} (row : E → List ℕ) (es : List E) where
         go (Refused k d) = refl
 
     list-bytes : lent rs row es (a .out) ≡ buffer (after (first rs) roomed) (written (list row es) (a .out)) (a .out)
-    unfolding lent bytesOf
+    unfolding lent saidBytes
     list-bytes = rw (list-stage, rows-bytes row es)
 
     list-told : (m : Matter) → m .said ≡ list row es → staged a m ≡ after (first rs) roomed → {r : ℕ} {o : List ℕ}

@@ -13,7 +13,7 @@ use Rattle.table.specs.Table.{count, kindAt}
 use Rattle.table.specs.Exactly.{Node, Broken, place}
 use Rattle.desk.specs.Reply.{packed, answered}
 use Rattle.demands.specs.declared.Question.{Question}
-use Rattle.demands.specs.Questions.{Asked, Matter, matter, answerOf, bytesOf}
+use Rattle.demands.specs.Questions.{Asked, Matter, matter, answerOf, saidBytes}
 
 -- ---- the conditions
 
@@ -25,7 +25,7 @@ NoNode t i = i < count t → Node (kindAt t i) → ⊥
 pub data Holds (a : Asked) (m : Matter) (k d : ℕ) : Type 0 where
   of-table : Broken (a .table) (length (a .source)) (m .message) k d → Holds a m k d
   of-root : (i : ℕ) → m .root ≡ some i → k ≡ 8 → d ≡ 0 → NoNode (a .table) i → Holds a m k d
-  of-room : k ≡ 7 → d ≡ answerOf (m .said) → length (a .out) < length (bytesOf (m .said)) → Holds a m k d
+  of-room : k ≡ 7 → d ≡ answerOf (m .said) → length (a .out) < length (saidBytes (m .said)) → Holds a m k d
 
 -- the place of condition k with detail d in the order, where the table has c records: 1, 2, then record by record 3, 4, 5, 6, then 8, then 7
 unfoldable pub placeIn : ℕ → ℕ → ℕ → ℕ

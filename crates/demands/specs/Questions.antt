@@ -85,10 +85,10 @@ answerOf (number n) = n
 answerOf (rows rs) = length rs
 
 -- the bytes of the entries
-unfoldable pub bytesOf : Said → List ℕ
-bytesOf (number n) = []
-bytesOf (rows rs) = listBytes (λ r. r) rs
+unfoldable pub saidBytes : Said → List ℕ
+saidBytes (number n) = []
+saidBytes (rows rs) = listBytes (λ r. r) rs
 
 -- a buffer with them from its first byte on, and the bytes behind them kept
 abbrev pub written : Said → List ℕ → List ℕ
-written s out = bytesOf s ++ drop (length (bytesOf s)) out
+written s out = saidBytes s ++ drop (length (saidBytes s)) out
