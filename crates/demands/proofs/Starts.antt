@@ -1,7 +1,9 @@
 -- The trees of an admitted table as the Rust's loops meet them.
---     Rises          behind a token, no token among its later siblings and below them starts earlier: so a loop may return there
---     Rooted         what is below a node is what the table has inside it
---     fold-late      a reading of tokens that counts none of them changes nothing
+--     Rises, inside-rises      behind a token, no token among its later siblings and below them starts earlier: so a loop may return there
+--     Rooted, inside-rooted    what is below a node is what the table has inside it
+--     inside-all               one law for what is so of every level of a table's tree
+--     later                    a later token starts no earlier
+--     fold-late                a reading of tokens that counts none of them changes nothing
 -- Assumes nothing.
 use Prim.Native.Nat.{ℕ, zero, suc, _+_, _-_, _≤_, _<_}
 use mathlib.Core.Path.{_≡_, refl, sym, ap, _∙_}

@@ -26,6 +26,7 @@ pub record Asked : Type 0 where
   pub root : ℕ
   pub out : List ℕ
 
+-- the same from its parts
 abbrev pub asked : List ℕ → List ℕ → List ℕ → ℕ → ℕ → List ℕ → Asked
 asked table source message offset root out =
     record { table = table; source = source; message = message; offset = offset; root = root; out = out }
@@ -41,6 +42,7 @@ pub record Matter : Type 0 where
   pub root : Option ℕ
   pub said : Said
 
+-- a question that takes no message and names no root; one that takes a message; one that names a root
 abbrev pub plain : Said → Matter
 plain s = record { message = 0; root = none; said = s }
 

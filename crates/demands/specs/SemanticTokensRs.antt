@@ -20,6 +20,8 @@ use Rattle.scope.specs.Classes.{classesOf}
 use Rattle.cursor.specs.Path.{oneOf}
 use Rattle.demands.specs.Rust.{push}
 
+-- ---- the constants, and document 01's numbers
+
 abbrev pub «TT_KEYWORD» : ℕ
 «TT_KEYWORD» = 0
 
@@ -49,6 +51,8 @@ abbrev pub «TT_PARAMETER» : ℕ
 
 abbrev pub «TT_PROPERTY» : ℕ
 «TT_PROPERTY» = 9
+
+-- ---- the functions
 
 -- fn is_keyword(text): `text.len() < 2` first; then `KEYWORDS.contains`, with the words of `KEYWORDS` in its order
 unfoldable pub «is_keyword» : List ℕ → Bool
