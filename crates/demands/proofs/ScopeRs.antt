@@ -8,12 +8,13 @@ use mathlib.Core.List.{List, [], _∷_, _++_, map, map-append, append-nil, appen
 use mathlib.Core.Logic.{⊎-elim}
 use mathlib.Core.Option.{Option, none, some}
 use native.Mathlib.Omega.{arith}
-use borrow.Author.Tests.{eq-eqb, ne-eqb, lt-ltb, le-ltb, le-leb, lt-leb}
-use lib.Dec.{ltb, eqb}
+use borrow.Author.Tests.{eq-eqb, ne-eqb, lt-ltb, le-ltb, le-leb, lt-leb, ltb-true, leb-false}
+use lib.Dec.{leb, ltb, eqb}
 use Rattle.table.specs.declared.record.Rec.{Rec}
 use Rattle.table.specs.Table.{recordAt, records}
 use Rattle.table.specs.Forest.{Forest, nil, token, node, kids}
 use Rattle.table.proofs.Laws.{lt-or-le}
+use Rattle.table.proofs.Texts.{both}
 use Rattle.scope.specs.declared.scope.Range.{Range}
 use Rattle.scope.specs.declared.scope.NameBinding.{NameBinding}
 use Rattle.scope.specs.declared.scope.TableRef.{TableRef}
@@ -28,7 +29,7 @@ use Rattle.scope.specs.Scope.{entered, collected, collection, entry, gathered, 
 use Rattle.scope.specs.Statement.{holds, itself, isStatement, orElse, firstFind, enclosingAt}
 use Rattle.scope.proofs.Counts.{decide}
 use Rattle.demands.specs.Rust.{push}
-use Rattle.demands.specs.ScopeRs.{Str, at, stopsAt, Binding, Reference, QueryScope, pushCte, pushTableAlias, pushColumnAlias, pushTableRef, startsWith, endsWith, inner, unquote, saysAs, bindingOf, «extract_cte», Ident, «extract_alias_name», parts, byParts, «extract_table_identifier», pushIfCte, «collect_ctes», flush, setAlias, pushAlias, «collect_table_refs», pushIfAlias, «collect_column_aliases», arms, eachChild, «collect_scope», «build_scope», isStatementKind, orReturn, enclosing, deeperStatement, rangeOf, rangeOr, binding, reference, found, ScopeRs}
+use Rattle.demands.specs.ScopeRs.{Str, at, stopsAt, Binding, Reference, QueryScope, pushCte, pushTableAlias, pushColumnAlias, pushTableRef, startsWith, endsWith, inner, unquote, saysAs, bindingOf, «extract_cte», Ident, «extract_alias_name», parts, byParts, «extract_table_identifier», pushIfCte, «collect_ctes», flush, setAlias, pushAlias, «collect_table_refs», pushIfAlias, «collect_column_aliases», arms, eachChild, «collect_scope», «build_scope», isStatementKind, orReturn, enclosing, deeperStatement, rangeOf, rangeOr, binding, reference, found, Lone, ScopeRs}
 use Rattle.demands.proofs.KindLists.{range-list}
 
 -- ---- names
@@ -66,6 +67,47 @@ unquote-same src s =
     (λ (h : 2 ≤ s .end - s .start).
     rw (le-leb 2 (s .end - s .start) h, lt-ltb (s .start) (s .end) (omega arith)) (marked s (byteAt src (s .start)) (byteAt src (s .end - 1))))
     (lt-or-le (s .end - s .start) 2)
+
+-- it stops at a lone mark, and nowhere else
+module _ (src : List ℕ) (s : Range) where
+  abbrev paired : ℕ → Bool
+  paired mark = startsWith src mark s && endsWith src mark s
+
+  lone : (mark : ℕ) → paired mark ≡ true → s .end - s .start < 2 → (s .end ≡ s .start + 1) × (eqb (byteAt src (s .start)) mark ≡ true)
+  lone mark e h =
+      let a = both (startsWith src mark s) (endsWith src mark s) e in
+      let b = both (ltb (s .start) (s .end)) (eqb (byteAt src (s .start)) mark) (a .0) in
+      let l : s .start < s .end = ltb-true (s .start) (s .end) (b .0) in
+      (omega arith, b .1)
+
+  stops→ : unquote src s ≡ stopsAt s → Lone src s
+  unfolding unquote inner
+  stops→ = go (paired 96) (paired 34) (leb 2 (s .end - s .start)) refl refl refl
+    where
+      go : (a b c : Bool) → paired 96 ≡ a → paired 34 ≡ b → leb 2 (s .end - s .start) ≡ c
+          → cond (a || b) (cond c (at (cut s)) (stopsAt s)) (at s) ≡ stopsAt s → Lone src s
+      go true b false x y z e = let w = lone 96 x (leb-false 2 (s .end - s .start) z) in record { one = w .0; mark = rw (w .1) }
+      go false true false x y z e =
+          let w = lone 34 y (leb-false 2 (s .end - s .start) z) in record { one = w .0; mark = either (eqb (byteAt src (s .start)) 96) (w .1) }
+        where
+          either : (b : Bool) {c : Bool} → c ≡ true → (b || c) ≡ true
+          either true e = refl
+          either false e = e
+      go true b true x y z e = absurd (let w : _≡_ {A = ℕ} 0 1 = cc in omega arith)
+      go false true true x y z e = absurd (let w : _≡_ {A = ℕ} 0 1 = cc in omega arith)
+      go false false c x y z e = absurd (let w : _≡_ {A = ℕ} 0 1 = cc in omega arith)
+
+  stops← : Lone src s → unquote src s ≡ stopsAt s
+  unfolding unquote inner
+  stops← l =
+      let e : s .end - 1 ≡ s .start = omega (arith, l .one) in
+      rw (e, lt-leb 2 (s .end - s .start) (omega (arith, l .one)), lt-ltb (s .start) (s .end) (omega (arith, l .one)))
+      (go (eqb (byteAt src (s .start)) 96) (eqb (byteAt src (s .start)) 34) (l .mark))
+    where
+      go : (a b : Bool) → (a || b) ≡ true → cond ((a && a) || (b && b)) (stopsAt s) (at s) ≡ stopsAt s
+      go true b e = refl
+      go false true e = refl
+      go false false e = absurd (let w : _≡_ {A = ℕ} 0 1 = cc in omega arith)
 
 -- what a token is: a Quoted, a BareWord, or neither
 data Sort (k : ℕ) : Type 0 where
@@ -396,5 +438,6 @@ scope-rs source t =
       table-aliases = λ i. built source _ _ .tables;
       column-aliases = λ i. built source _ _ .columns;
       table-refs = λ i. built source _ _ .refs;
+      stops = λ s. (stops→ source s, stops← source s);
       enclosing-statement = λ o. held-same (recordAt t 0 0) o _ ∙ rw (deeper-same (kids (records 0 t)) o) (sym (or-outside _));
     }

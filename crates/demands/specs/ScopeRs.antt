@@ -2,8 +2,9 @@
 -- Definitions only; the theorem is `scope-rs` in proofs/ScopeRs.antt.
 use Prim.Native.Nat.{ℕ, _+_, _-_}
 use mathlib.Core.Path.{_≡_}
-use mathlib.Core.Bool.{Bool, cond, not, _&&_, _||_}
+use mathlib.Core.Bool.{Bool, true, cond, not, _&&_, _||_}
 use mathlib.Core.List.{List, [], _∷_, map}
+use mathlib.Core.Logic.{_↔_}
 use mathlib.Core.Option.{Option, none, some}
 use lib.Dec.{leb, ltb, eqb}
 use Rattle.table.specs.declared.record.Rec.{Rec}
@@ -16,7 +17,7 @@ use Rattle.scope.specs.declared.scope.NameBinding.{NameBinding}
 use Rattle.scope.specs.declared.scope.TableRef.{TableRef}
 use Rattle.scope.specs.declared.scope.Enclosing.{Enclosing}
 use Rattle.scope.specs.declared.scope.Enclosing.the-variants.{Outside, Record}
-use Rattle.scope.specs.Names.{absent, span, byteAt}
+use Rattle.scope.specs.Names.{absent, span, byteAt, isMark}
 use Rattle.scope.specs.ScopeQuestions.{withNames, tableAliases, columnAliases, tableRefs}
 use Rattle.scope.specs.Statement.{enclosingAt}
 use Rattle.cursor.specs.Path.{oneOf}
@@ -295,10 +296,16 @@ found (some r) = Record (r .index)
 abbrev pub scopeAt : List ℕ → List ℕ → ℕ → QueryScope
 scopeAt source t i = «build_scope» (recordAt (part t i (stretchEnd t i)) i 0) (kids (records i (part t i (stretchEnd t i)))) source
 
--- each list is the Rust's, with a lone quote mark kept where the Rust stops at it; and so is the enclosing statement
+-- a lone quote mark: one byte, a backtick or a double quote
+pub record Lone (source : List ℕ) (s : Range) : Type 0 where
+  pub one : s .end ≡ s .start + 1
+  pub mark : isMark (byteAt source (s .start)) ≡ true
+
+-- each list is the Rust's, with a lone quote mark kept where the Rust stops at it, which is nowhere else; and so is the enclosing statement
 pub record ScopeRs (source t : List ℕ) : Type 0 where
   pub with-names : (i : ℕ) → map binding (scopeAt source t i .ctes) ≡ withNames source t i
   pub table-aliases : (i : ℕ) → map binding (scopeAt source t i .«table_aliases») ≡ tableAliases source t i
   pub column-aliases : (i : ℕ) → map binding (scopeAt source t i .«column_aliases») ≡ columnAliases source t i
   pub table-refs : (i : ℕ) → map reference (scopeAt source t i .«table_refs») ≡ tableRefs source t i
+  pub stops : (s : Range) → (unquote source s ≡ stopsAt s) ↔ Lone source s
   pub enclosing-statement : (o : ℕ) → found («find_enclosing_statement» (recordAt t 0 0) (kids (records 0 t)) o) ≡ enclosingAt t o
