@@ -1,0 +1,393 @@
+-- Demands 1 and 2 from the questions' promises.
+--     staged                       the verdict on a question: 1 to 6, then 8, then 7
+--     staged-means, staged-refused it is a refusal exactly when its condition holds and none before it does, and none where none holds
+--     demanded                     both demands, of a reply and a buffer that are told by that verdict
+--     one-reply                    two replies that meet both demands are equal
+--     number-told, plain-told, rooted-told    each form of promise tells them by it
+-- Assumes nothing.
+use Prim.Native.Nat.{ℕ, _+_, _*_, _≤_, _<_}
+use mathlib.Core.Path.{_≡_, refl, sym, ap, _∙_}
+use mathlib.Core.Bool.{Bool, true, false, cond}
+use mathlib.Core.List.{List, [], _∷_, _++_, map}
+use mathlib.Core.Logic.{_⊎_, inl, inr}
+use mathlib.Core.Option.{Option, none, some}
+use native.Mathlib.Omega.{arith}
+use borrow.Author.Tests.{lt-ltb, le-ltb, le-leb, ltb-true, ltb-false, leb-true, not-false}
+use lib.ListN.{length, length-map}
+use lib.Dec.{ltb}
+use Rattle.table.specs.declared.check.Verdict.{Verdict}
+use Rattle.table.specs.declared.check.Verdict.the-variants.{Admitted, Refused}
+use Rattle.table.specs.Kinds.{isNode, expression}
+use Rattle.table.specs.Table.{count, kindAt}
+use Rattle.table.specs.Rules.{Rule, first, rules, rootRules, noRoot, verdict}
+use Rattle.table.specs.Lists.{listBytes, roomRule, listVerdict, reply, buffer, listed, lent}
+use Rattle.table.specs.Exactly.{Broken, broken-1, broken-2, broken-3, broken-4, broken-5, broken-6, place, Least}
+use Rattle.table.proofs.Texts.{both}
+use Rattle.table.proofs.Exactly.{clash, refused-exactly, admitted-exactly}
+use Rattle.scope.specs.declared.bracket_matching.Hint.{Hint}
+use Rattle.scope.specs.Brackets.{hinted}
+use Rattle.scope.specs.declared.scope.Enclosing.{Enclosing}
+use Rattle.scope.specs.declared.scope.Enclosing.the-variants.{Outside, Record}
+use Rattle.scope.specs.Statement.{told, statementReply}
+use Rattle.cursor.specs.Root.{rootReply}
+use Rattle.desk.specs.Reply.{packed, answered, verdictReply, listReply, hintRecord, hintReply, statementNumber, rootNumber}
+use Rattle.demands.specs.declared.Question.{Question}
+use Rattle.demands.specs.Questions.{Asked, Said, number, Matter, plain, ofRoot, list, statementRecord, matter, answerOf, saidBytes, written}
+use Rattle.demands.specs.Demand1.{NoNode, Holds, of-table, of-root, of-room, placeIn, First, Refusal, Answer, Refuses, Demand1}
+use Rattle.demands.specs.Demand2.{Demand2}
+
+-- ---- the verdict on a question
+
+-- this verdict, and where it admits the next
+unfoldable pub after : Verdict → Verdict → Verdict
+after Admitted w = w
+after (Refused k d) w = Refused k d
+
+first-after : (rs more : List Rule) → first (rs ++ more) ≡ after (first rs) (first more)
+unfolding after
+first-after [] more = refl
+first-after (r ∷ rs) more = go (r .broken) (first-after rs more)
+  where
+    go : (b : Bool) → first (rs ++ more) ≡ after (first rs) (first more)
+        → cond b (Refused (r .number) (r .detail)) (first (rs ++ more)) ≡ after (cond b (Refused (r .number) (r .detail)) (first rs)) (first more)
+    go true ih = refl
+    go false ih = ih
+
+no-node : (t : List ℕ) (i : ℕ) → noRoot t i ≡ true → NoNode t i
+no-node t i e h k = clash (rw (lt-ltb i (count t) h, le-leb (kindAt t i) expression k)) e
+
+a-node : (t : List ℕ) (i : ℕ) → noRoot t i ≡ false → NoNode t i → ⊥
+a-node t i e w =
+    let b = both (ltb i (count t)) (isNode (kindAt t i)) (not-false _ e) in
+    w (ltb-true i (count t) (b .0)) (leb-true (kindAt t i) expression (b .1))
+
+-- 8
+unfoldable pub rooted : List ℕ → Option ℕ → Verdict
+rooted t none = Admitted
+rooted t (some i) = cond (noRoot t i) (Refused 8 0) Admitted
+
+-- 7
+unfoldable pub roomy : Said → List ℕ → Verdict
+roomy s out = cond (ltb (length out) (length (saidBytes s))) (Refused 7 (answerOf s)) Admitted
+
+unfoldable pub staged : Asked → Matter → Verdict
+staged a m = after (verdict (a .table) (length (a .source)) (m .message)) (after (rooted (a .table) (m .root)) (roomy (m .said) (a .out)))
+
+module _ (a : Asked) (m : Matter) where
+  abbrev t : List ℕ
+  t = a .table
+
+  abbrev n : ℕ
+  n = length (a .source)
+
+  abbrev at : ℕ → ℕ → ℕ
+  at = placeIn (count t)
+
+  -- ---- the places
+
+  at-table : (k d : ℕ) → Broken t n (m .message) k d → (at k d ≡ place k d) × (at k d ≤ 4 * count t + 2)
+  unfolding placeIn place
+  at-table k d (broken-1 e z b) = rw e (refl, omega arith)
+  at-table k d (broken-2 e z b) = rw e (refl, omega arith)
+  at-table k d (broken-3 e h b) = rw e (refl, omega arith)
+  at-table k d (broken-4 e h b) = rw e (refl, omega arith)
+  at-table k d (broken-5 e h b) = rw e (refl, omega arith)
+  at-table k d (broken-6 e h b) = rw e (refl, omega arith)
+
+  at-root : (k d : ℕ) → k ≡ 8 → at k d ≡ 4 * count t + 3
+  unfolding placeIn
+  at-root k d e = rw e
+
+  at-room : (k d : ℕ) → k ≡ 7 → at k d ≡ 4 * count t + 4
+  unfolding placeIn
+  at-room k d e = rw e
+
+  numbers : (k d : ℕ) → Holds a m k d → (1 ≤ k) × (k ≤ 8)
+  numbers k d (of-table (broken-1 e z b)) = omega arith
+  numbers k d (of-table (broken-2 e z b)) = omega arith
+  numbers k d (of-table (broken-3 e h b)) = omega arith
+  numbers k d (of-table (broken-4 e h b)) = omega arith
+  numbers k d (of-table (broken-5 e h b)) = omega arith
+  numbers k d (of-table (broken-6 e h b)) = omega arith
+  numbers k d (of-root i r e z b) = omega arith
+  numbers k d (of-room e z h) = omega arith
+
+  -- ---- a refusal of each stage
+
+  abbrev Nothing : Type 0
+  Nothing = (k d : ℕ) → Broken t n (m .message) k d → ⊥
+
+  by-table : (k d : ℕ) → Least t n (m .message) k d → First a m k d
+  by-table k d l = record { holds = of-table (l .holds); none-before = go }
+    where
+      go : (k′ d′ : ℕ) → Holds a m k′ d′ → at k d ≤ at k′ d′
+      go k′ d′ (of-table b) = rw (at-table k d (l .holds) .0, at-table k′ d′ b .0) (l .none-before k′ d′ b)
+      go k′ d′ (of-root i r e z b) = rw (at-root k′ d′ e) (omega (arith, at-table k d (l .holds) .1))
+      go k′ d′ (of-room e z h) = rw (at-room k′ d′ e) (omega (arith, at-table k d (l .holds) .1))
+
+  by-root : Nothing → (i : ℕ) → m .root ≡ some i → noRoot t i ≡ true → First a m 8 0
+  by-root free i r b = record { holds = of-root i r refl refl (no-node t i b); none-before = go }
+    where
+      go : (k′ d′ : ℕ) → Holds a m k′ d′ → at 8 0 ≤ at k′ d′
+      go k′ d′ (of-table x) = absurd (free k′ d′ x)
+      go k′ d′ (of-root j q e z x) = rw (at-root 8 0 refl, at-root k′ d′ e) (omega arith)
+      go k′ d′ (of-room e z h) = rw (at-root 8 0 refl, at-room k′ d′ e) (omega arith)
+
+  abbrev Rooted : Type 0
+  Rooted = (i : ℕ) → m .root ≡ some i → noRoot t i ≡ false
+
+  by-room : Nothing → Rooted → length (a .out) < length (saidBytes (m .said)) → First a m 7 (answerOf (m .said))
+  by-room free r h = record { holds = of-room refl refl h; none-before = go }
+    where
+      go : (k′ d′ : ℕ) → Holds a m k′ d′ → at 7 (answerOf (m .said)) ≤ at k′ d′
+      go k′ d′ (of-table x) = absurd (free k′ d′ x)
+      go k′ d′ (of-root i q e z x) = absurd (a-node t i (r i q) x)
+      go k′ d′ (of-room e z g) = rw (at-room 7 (answerOf (m .said)) refl, at-room k′ d′ e) (omega arith)
+
+  -- ---- from the verdict
+
+  record Free : Type 0 where
+    none : Nothing
+    root : Rooted
+    room : length (saidBytes (m .said)) ≤ length (a .out)
+
+  -- what a verdict means
+  Means : Verdict → Type 0
+  Means Admitted = Free
+  Means (Refused k d) = First a m k d
+
+  staged-means : Means (staged a m)
+  unfolding staged after Means roomy rooted
+  staged-means = go (verdict t n (m .message)) refl
+    where
+      on-room : Nothing → Rooted → (b : Bool) → ltb (length (a .out)) (length (saidBytes (m .said))) ≡ b → Means (cond b (Refused 7 (answerOf (m .said))) Admitted)
+      on-room free r true e = by-room free r (ltb-true (length (a .out)) (length (saidBytes (m .said))) e)
+      on-room free r false e = record { none = free; root = r; room = ltb-false (length (a .out)) (length (saidBytes (m .said))) e }
+
+      then-room : Nothing → Rooted → Means (roomy (m .said) (a .out))
+      then-room free r = on-room free r (ltb (length (a .out)) (length (saidBytes (m .said)))) refl
+
+      on-root : Nothing → (i : ℕ) → m .root ≡ some i → (b : Bool) → noRoot t i ≡ b → Means (after (cond b (Refused 8 0) Admitted) (roomy (m .said) (a .out)))
+      on-root free i r true e = by-root free i r e
+      on-root free i r false e = then-room free (λ j q. let z : i ≡ j = cc in rw (← z) e)
+
+      then-root : Nothing → (x : Option ℕ) → m .root ≡ x → Means (after (rooted t x) (roomy (m .said) (a .out)))
+      then-root free none r = then-room free (λ j q. absurd (let z : _≡_ {A = ℕ} 0 1 = cc in omega arith))
+      then-root free (some i) r = on-root free i r (noRoot t i) refl
+
+      go : (v : Verdict) → verdict t n (m .message) ≡ v → Means (after v (after (rooted t (m .root)) (roomy (m .said) (a .out))))
+      go Admitted e = then-root (admitted-exactly t n (m .message) .0 e) (m .root) refl
+      go (Refused k d) e = by-table k d (refused-exactly t n (m .message) k d .0 e)
+
+  -- ---- and back
+
+  free-none : Free → (k d : ℕ) → Holds a m k d → ⊥
+  free-none f k d (of-table b) = f .none k d b
+  free-none f k d (of-root i r e z b) = a-node t i (f .root i r) b
+  free-none f k d (of-room e z h) = omega (arith, f .room)
+
+  least-of : (k d : ℕ) → First a m k d → Broken t n (m .message) k d → Least t n (m .message) k d
+  least-of k d f b =
+      record { holds = b; none-before = λ k′ d′ b′. rw (at-table k d b .0, at-table k′ d′ b′ .0) at (f .none-before k′ d′ (of-table b′)) }
+
+  same-first : (k d k′ d′ : ℕ) → First a m k d → First a m k′ d′ → (k ≡ k′) × (d ≡ d′)
+  same-first k d k′ d′ f g = go (f .holds) (g .holds) (omega (arith, f .none-before k′ d′ (g .holds), g .none-before k d (f .holds)))
+    where
+      go : Holds a m k d → Holds a m k′ d′ → at k d ≡ at k′ d′ → (k ≡ k′) × (d ≡ d′)
+      go (of-table b) (of-table c) p =
+          let x : verdict t n (m .message) ≡ Refused k d = refused-exactly t n (m .message) k d .1 (least-of k d f b) in
+          let y : verdict t n (m .message) ≡ Refused k′ d′ = refused-exactly t n (m .message) k′ d′ .1 (least-of k′ d′ g c) in
+          (cc, cc)
+      go (of-table b) (of-root i r e z x) p = absurd (omega (arith, at-table k d b .1, at-root k′ d′ e))
+      go (of-table b) (of-room e z h) p = absurd (omega (arith, at-table k d b .1, at-room k′ d′ e))
+      go (of-root i r e z x) (of-table c) p = absurd (omega (arith, at-table k′ d′ c .1, at-root k d e))
+      go (of-root i r e z x) (of-root j q u v y) p = (omega arith, omega arith)
+      go (of-root i r e z x) (of-room u v h) p = absurd (omega (arith, at-root k d e, at-room k′ d′ u))
+      go (of-room e z h) (of-table c) p = absurd (omega (arith, at-table k′ d′ c .1, at-room k d e))
+      go (of-room e z h) (of-root j q u v y) p = absurd (omega (arith, at-room k d e, at-root k′ d′ u))
+      go (of-room e z h) (of-room u v g) p = (omega arith, omega arith)
+
+  staged-refused : (k d : ℕ) → First a m k d → staged a m ≡ Refused k d
+  unfolding Means
+  staged-refused k d f = go (staged a m) refl staged-means
+    where
+      go : (v : Verdict) → staged a m ≡ v → Means v → staged a m ≡ Refused k d
+      go Admitted e w = absurd (free-none w k d (f .holds))
+      go (Refused k′ d′) e w = let s = same-first k′ d′ k d w f in e ∙ rw (s .0, s .1)
+
+-- ---- a reply and a buffer that are told by the verdict
+
+unfoldable pub packing : Verdict → ℕ → ℕ
+packing Admitted n = packed answered n
+packing (Refused k d) n = packed k d
+
+pub record Told (a : Asked) (m : Matter) (r : ℕ) (o : List ℕ) : Type 0 where
+  pub reply : r ≡ packing (staged a m) (answerOf (m .said))
+  pub bytes : o ≡ buffer (staged a m) (written (m .said) (a .out)) (a .out)
+
+module _ (q : Question) (a : Asked) {r : ℕ} {o : List ℕ} (told : Told a (matter q a) r o) where
+  abbrev m : Matter
+  m = matter q a
+
+  either : Answer r ⊎ Refuses r
+  unfolding Means packing
+  either = go (staged a m) (staged-means a m) (told .reply)
+    where
+      go : (v : Verdict) → Means a m v → r ≡ packing v (answerOf (m .said)) → Answer r ⊎ Refuses r
+      go Admitted w e = inl (record { said = answerOf (m .said); is = e })
+      go (Refused k d) w e =
+          let b = numbers a m k d (w .holds) in inr (record { number = k; detail = d; is = record { from = b .0; to = b .1; is = e } })
+
+  given : (k d : ℕ) → Refusal r k d → First a m k d
+  unfolding Means packing
+  given k d x = go (staged a m) (staged-means a m) (told .reply)
+    where
+      go : (v : Verdict) → Means a m v → r ≡ packing v (answerOf (m .said)) → First a m k d
+      go Admitted w e = absurd (omega (arith, x .from, x .to, x .is))
+      go (Refused k′ d′) w e =
+          let b = numbers a m k′ d′ (w .holds) in
+          let p : k′ ≡ k = omega (arith, x .from, x .to, x .is) in
+          let s : d′ ≡ d = omega (arith, x .from, x .to, x .is) in
+          rw (p, s) at w
+
+  back : (k d : ℕ) → First a m k d → Refusal r k d
+  unfolding packing
+  back k d f =
+      let b = numbers a m k d (f .holds) in
+      record { from = b .0; to = b .1; is = told .reply ∙ rw (staged-refused a m k d f) }
+
+  demand-1 : Demand1 q a r o
+  unfolding buffer
+  demand-1 =
+      record {
+        either = either;
+        exactly = λ k d. (given k d, back k d);
+        kept = λ k d x. told .bytes ∙ rw (staged-refused a m k d (given k d x));
+      }
+
+  admitted : ((k d : ℕ) → Holds a m k d → ⊥) → staged a m ≡ Admitted
+  unfolding Means
+  admitted h = go (staged a m) refl (staged-means a m)
+    where
+      go : (v : Verdict) → staged a m ≡ v → Means a m v → staged a m ≡ Admitted
+      go Admitted e w = e
+      go (Refused k d) e w = absurd (h k d (w .holds))
+
+  demand-2 : Demand2 q a r o
+  unfolding buffer packing
+  demand-2 = record { answer = λ h. told .reply ∙ rw (admitted h); entries = λ h. told .bytes ∙ rw (admitted h) }
+
+  pub demanded : Demand1 q a r o × Demand2 q a r o
+  demanded = (demand-1, demand-2)
+
+-- two replies that meet both demands are equal, and so are the buffers
+module _ (q : Question) (a : Asked) {r r′ : ℕ} {o o′ : List ℕ} (x : Demand1 q a r o × Demand2 q a r o) (y : Demand1 q a r′ o′ × Demand2 q a r′ o′) where
+  pub one-reply : (r ≡ r′) × (o ≡ o′)
+  unfolding Means
+  one-reply = go (staged a (matter q a)) (staged-means a (matter q a))
+    where
+      go : (v : Verdict) → Means a (matter q a) v → (r ≡ r′) × (o ≡ o′)
+      go Admitted w =
+          let f = free-none a (matter q a) w in (x .1 .answer f ∙ sym (y .1 .answer f), x .1 .entries f ∙ sym (y .1 .entries f))
+      go (Refused k d) w =
+          let p = x .0 .exactly k d .1 w in
+          let s = y .0 .exactly k d .1 w in
+          (p .is ∙ sym (s .is), x .0 .kept k d p ∙ sym (y .0 .kept k d s))
+
+-- ---- each form of promise
+
+after-after : (u v w : Verdict) → after (after u v) w ≡ after u (after v w)
+unfolding after
+after-after Admitted v w = refl
+after-after (Refused k d) v w = refl
+
+-- a number
+module _ (a : Asked) (message n : ℕ) where
+  abbrev saying : Matter
+  saying = record { message = message; root = none; said = number n }
+
+  abbrev on : Verdict
+  on = verdict (a .table) (length (a .source)) message
+
+  number-stage : staged a saying ≡ on
+  unfolding staged rooted roomy saidBytes after
+  number-stage = rw (le-ltb (length (a .out)) 0 (omega arith)) (go on)
+    where
+      go : (v : Verdict) → after v (after Admitted Admitted) ≡ v
+      go Admitted = refl
+      go (Refused k d) = refl
+
+  number-bytes : (v : Verdict) → a .out ≡ buffer v (written (number n) (a .out)) (a .out)
+  unfolding buffer saidBytes
+  number-bytes Admitted = refl
+  number-bytes (Refused k d) = refl
+
+  pub number-told : {r : ℕ} → r ≡ packing on n → Told a saying r (a .out)
+  unfolding answerOf
+  number-told p = record { reply = rw number-stage p; bytes = rw number-stage (number-bytes on) }
+
+pub check-packed : (v : Verdict) → verdictReply v ≡ packing v 0
+unfolding verdictReply packing
+check-packed Admitted = refl
+check-packed (Refused k d) = refl
+
+pub hint-packed : (v : Verdict) (h : Hint) → hintReply (hinted v h) ≡ packing v (hintRecord h)
+unfolding hinted hintReply packing
+hint-packed Admitted h = refl
+hint-packed (Refused k d) h = refl
+
+pub statement-packed : (v : Verdict) (e : Enclosing) → statementNumber (statementReply v e) ≡ packing v (statementRecord e)
+unfolding statementReply told statementNumber statementRecord packing
+statement-packed Admitted Outside = refl
+statement-packed Admitted (Record n) = refl
+statement-packed (Refused k d) e = refl
+
+pub root-packed : (v : Verdict) (n : ℕ) → rootNumber (rootReply v n) ≡ packing v n
+unfolding rootReply rootNumber packing
+root-packed Admitted n = refl
+root-packed (Refused k d) n = refl
+
+-- a list
+rows-bytes : {E : Type 0} (row : E → List ℕ) (es : List E) → listBytes (λ r. r) (map row es) ≡ listBytes row es
+unfolding listBytes
+rows-bytes row [] = refl
+rows-bytes row (e ∷ es) = rw (rows-bytes row es)
+
+module _ (a : Asked) {E : Type 0} (row : E → List ℕ) (es : List E) where
+  abbrev roomed : Verdict
+  roomed = roomy (list row es) (a .out)
+
+  module _ (rs : List Rule) where
+    list-stage : listVerdict rs row es (a .out) ≡ after (first rs) roomed
+    unfolding roomy saidBytes answerOf
+    list-stage = rw (rows-bytes row es, length-map es) (first-after rs (roomRule row es (a .out) ∷ []))
+
+    list-packed : listReply (listed rs row es (a .out)) ≡ packing (after (first rs) roomed) (answerOf (list row es))
+    unfolding listed answerOf listReply reply packing
+    list-packed = rw (list-stage, length-map es) (go (after (first rs) roomed))
+      where
+        go : (v : Verdict) → listReply (reply v (length es)) ≡ packing v (length es)
+        go Admitted = refl
+        go (Refused k d) = refl
+
+    list-bytes : lent rs row es (a .out) ≡ buffer (after (first rs) roomed) (written (list row es) (a .out)) (a .out)
+    unfolding lent saidBytes
+    list-bytes = rw (list-stage, rows-bytes row es)
+
+    list-told : (m : Matter) → m .said ≡ list row es → staged a m ≡ after (first rs) roomed → {r : ℕ} {o : List ℕ}
+        → (r ≡ listReply (listed rs row es (a .out))) × (o ≡ lent rs row es (a .out)) → Told a m r o
+    list-told m e s p = record { reply = rw (s, e) (p .0 ∙ list-packed); bytes = rw (s, e) (p .1 ∙ list-bytes) }
+
+  pub plain-told : {r : ℕ} {o : List ℕ}
+      → (r ≡ listReply (listed (rules (a .table) (length (a .source)) 0) row es (a .out))) × (o ≡ lent (rules (a .table) (length (a .source)) 0) row es (a .out))
+      → Told a (plain (list row es)) r o
+  unfolding staged rooted after verdict
+  plain-told = list-told (rules (a .table) (length (a .source)) 0) (plain (list row es)) refl refl
+
+  pub rooted-told : (i : ℕ) {r : ℕ} {o : List ℕ}
+      → (r ≡ listReply (listed (rootRules (a .table) (length (a .source)) i) row es (a .out))) × (o ≡ lent (rootRules (a .table) (length (a .source)) i) row es (a .out))
+      → Told a (ofRoot i (list row es)) r o
+  unfolding staged rooted verdict
+  rooted-told i =
+      list-told (rootRules (a .table) (length (a .source)) i) (ofRoot i (list row es)) refl
+      (sym (ap (λ (v : Verdict). after v roomed) (first-after (rules (a .table) (length (a .source)) 0) _) ∙ after-after _ _ roomed))

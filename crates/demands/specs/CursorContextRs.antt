@@ -1,0 +1,319 @@
+-- cursor_context.rs, statement by statement: the second reading of document 01's cursor.
+-- Definitions only; the theorem, of every admitted table, is `cursor-context-rs` in proofs/CursorContextRs.antt.
+use Prim.Native.Nat.{ℕ, _+_}
+use mathlib.Core.Path.{_≡_}
+use mathlib.Core.Bool.{Bool, true, false, cond, _&&_, _||_}
+use mathlib.Core.List.{List, [], _∷_, map, reverse}
+use mathlib.Core.Option.{Option, none, some}
+use lib.Dec.{leb, ltb, eqb}
+use Rattle.table.specs.declared.record.Rec.{Rec}
+use Rattle.table.specs.Kinds.{file, queryList, error, selectStatement, insertStatement, createStatement, alterStatement, deleteStatement, updateStatement, selectClause, fromClause, joinClause, prewhereClause, whereClause, groupByClause, havingClause, orderByClause, settingsClause, settingList, engineClause, formatClause, insertFormatClause, joinConstraint, tableIdentifier, columnDefinition, columnTypeDefinition, columnCodec, dataType, dataTypeParameters, functionCall, aggregateFunction, identifier, whitespace, comment, bareWord, comma, openingRound}
+use Rattle.table.specs.Table.{recordAt, records}
+use Rattle.table.specs.Forest.{Forest, nil, token, node, kids}
+use Rattle.table.specs.Text.{text, bytesOf, same, says}
+use Rattle.cursor.specs.declared.cursor_context.Range.{Range}
+use Rattle.cursor.specs.declared.cursor_context.Name.{Name}
+use Rattle.cursor.specs.declared.cursor_context.Name.the-variants.{Nameless, Named}
+use Rattle.cursor.specs.declared.cursor_context.CursorContext.{CursorContext}
+use Rattle.cursor.specs.declared.cursor_context.CursorContext.the-variants.{SelectExpression, TableReference, ColumnOfTable, Expression, SettingName, EngineName, FormatName, DataType, CodecName, FunctionArgument, StatementStart, Unknown}
+use Rattle.cursor.specs.Path.{pathAt, inside, oneOf}
+use Rattle.cursor.specs.LastToken.{lastTwo, dotted}
+use Rattle.cursor.specs.Function.{functionName, arguments}
+use Rattle.cursor.specs.Context.{contextAt}
+use Rattle.demands.specs.Rust.{push, find}
+
+-- enum CursorContext is the library's own, whose `Name` is an `Option<String>`; a function without a name has none for the Rust's empty one
+
+-- a token's text, by its range
+abbrev pub textOf : Rec → Range
+textOf t = record { start = t .start; end = t .end }
+
+-- `return` what is there, else go on
+unfoldable pub returnOr : Option CursorContext → CursorContext → CursorContext
+returnOr none on = on
+returnOr (some c) on = c
+
+-- ---- the path
+
+-- struct PathNode
+pub record PathNode : Type 0 where
+  pub tree : Rec
+  pub children : Forest
+
+-- the loop of `find_node_path`, at the children of `current`: the inner `for` leaves at the first child that holds the offset, which is
+-- pushed and becomes `current`; where none is found the loop ends
+unfoldable pub descend : Forest → ℕ → List PathNode → List PathNode
+descend nil offset path = path
+descend (token t rest) offset path = descend rest offset path
+descend (node subtree children rest) offset path =
+    let on : List PathNode = descend rest offset path in
+    let down : List PathNode = descend children offset (push path (record { tree = subtree; children = children })) in
+    cond (ltb (subtree .end) (subtree .start)) on (cond (leb (subtree .start) offset && leb offset (subtree .end)) down on)
+
+-- fn find_node_path(tree, offset)
+unfoldable pub «find_node_path» : Rec → Forest → ℕ → List PathNode
+«find_node_path» tree children offset = descend children offset (record { tree = tree; children = children } ∷ [])
+
+-- ---- the token before the offset
+
+-- `(&str, SyntaxKind)`
+pub record Before : Type 0 where
+  pub text : Range
+  pub parent : ℕ
+
+-- Whitespace or Comment
+abbrev pub skipped : ℕ → Bool
+skipped kind = eqb kind whitespace || eqb kind comment
+
+-- fn token_before_impl(tree, source, offset, parent_kind, best)
+unfoldable pub «token_before_impl» : Forest → ℕ → ℕ → Option Before → Option Before
+«token_before_impl» nil offset «parent_kind» best = best
+«token_before_impl» (token t rest) offset «parent_kind» best =
+    let on : Option Before = «token_before_impl» rest offset «parent_kind» best in
+    let better : Option Before = cond (leb (t .start) offset) (some (record { text = textOf t; parent = «parent_kind» })) best in
+    let next : Option Before = «token_before_impl» rest offset «parent_kind» better in
+    cond (skipped (t .kind)) on next
+«token_before_impl» (node subtree children rest) offset «parent_kind» best =
+    let on : Option Before = «token_before_impl» rest offset «parent_kind» best in
+    let inside : Option Before = cond (leb (subtree .start) offset) («token_before_impl» children offset (subtree .kind) best) best in
+    let next : Option Before = «token_before_impl» rest offset «parent_kind» inside in
+    cond (ltb (subtree .end) (subtree .start)) on next
+
+-- fn token_before_offset(tree, source, offset)
+unfoldable pub «token_before_offset» : Rec → Forest → ℕ → Option Before
+«token_before_offset» tree children offset = «token_before_impl» children offset (tree .kind) none
+
+-- `if let Some((prev_text, _))`, and prev_text is the word
+unfoldable pub isWord : List ℕ → List ℕ → Option Before → Bool
+isWord word source none = false
+isWord word source (some b) = same (text source (b .text .start) (b .text .end)) word
+
+-- the same by `eq_ignore_ascii_case`
+unfoldable pub saysWord : List ℕ → List ℕ → Option Before → Bool
+saysWord word source none = false
+saysWord word source (some b) = says word (text source (b .text .start) (b .text .end))
+
+-- ---- the identifier before a dot
+
+-- prev_prev and prev
+pub record Prev : Type 0 where
+  pub «prev_prev» : Name
+  pub prev : Name
+
+-- fn find_ident_before_dot_impl(tree, source, offset, prev_prev, prev): returns at a token that starts after the offset
+unfoldable pub «find_ident_before_dot_impl» : Forest → ℕ → Prev → Prev
+«find_ident_before_dot_impl» nil offset p = p
+«find_ident_before_dot_impl» (token t rest) offset p =
+    let on : Prev = «find_ident_before_dot_impl» rest offset p in
+    let next : Prev = «find_ident_before_dot_impl» rest offset (record { «prev_prev» = p .prev; prev = Named (textOf t) }) in
+    cond (skipped (t .kind)) on (cond (ltb offset (t .start)) p next)
+«find_ident_before_dot_impl» (node subtree children rest) offset p =
+    let on : Prev = «find_ident_before_dot_impl» rest offset p in
+    let inside : Prev = cond (leb (subtree .start) offset) («find_ident_before_dot_impl» children offset p) p in
+    let next : Prev = «find_ident_before_dot_impl» rest offset inside in
+    cond (ltb (subtree .end) (subtree .start)) on next
+
+-- `if prev == Some(".")` then prev_prev
+unfoldable pub beforeDot : List ℕ → Name → Name → Name
+beforeDot source «prev_prev» Nameless = Nameless
+beforeDot source «prev_prev» (Named r) = cond (same (text source (r .start) (r .end)) (bytesOf ".")) «prev_prev» Nameless
+
+-- fn find_identifier_before_dot(tree, source, offset)
+unfoldable pub «find_identifier_before_dot» : Forest → List ℕ → ℕ → Name
+«find_identifier_before_dot» children source offset =
+    let p : Prev = «find_ident_before_dot_impl» children offset (record { «prev_prev» = Nameless; prev = Nameless }) in
+    beforeDot source (p .«prev_prev») (p .prev)
+
+-- fn table_ref_or_dot(tree, source, offset)
+unfoldable pub «table_ref_or_dot» : PathNode → List ℕ → ℕ → CursorContext
+«table_ref_or_dot» n source offset =
+    cond (isWord (bytesOf ".") source («token_before_offset» (n .tree) (n .children) offset))
+    (TableReference («find_identifier_before_dot» (n .children) source offset)) (TableReference Nameless)
+
+-- `if let Some(qualifier)`
+unfoldable pub columnOf : Name → Option CursorContext
+columnOf Nameless = none
+columnOf (Named r) = some (ColumnOfTable r)
+
+-- fn check_dot_access(tree, source, offset)
+unfoldable pub «check_dot_access» : PathNode → List ℕ → ℕ → Option CursorContext
+«check_dot_access» n source offset =
+    cond (isWord (bytesOf ".") source («token_before_offset» (n .tree) (n .children) offset))
+    (columnOf («find_identifier_before_dot» (n .children) source offset)) none
+
+-- ---- a function's argument
+
+-- the inner `for sub_child`, and where it returns nothing, on
+unfoldable pub firstBareWord : Forest → Name → Name
+firstBareWord nil on = on
+firstBareWord (token t rest) on =
+    let more : Name = firstBareWord rest on in
+    cond (eqb (t .kind) bareWord) (Named (textOf t)) more
+firstBareWord (node subtree children rest) on = firstBareWord rest on
+
+-- fn extract_function_name(tree, source): breaks behind a `(`
+unfoldable pub «extract_function_name» : Forest → Name
+«extract_function_name» nil = Nameless
+«extract_function_name» (token t rest) =
+    let on : Name = «extract_function_name» rest in
+    let next : Name = cond (eqb (t .kind) openingRound) Nameless on in
+    cond (eqb (t .kind) bareWord) (Named (textOf t)) next
+«extract_function_name» (node subtree children rest) =
+    let on : Name = «extract_function_name» rest in
+    let inside : Name = firstBareWord children on in
+    cond (eqb (subtree .kind) identifier) inside on
+
+-- count and inside_parens
+pub record Commas : Type 0 where
+  pub count : ℕ
+  pub «inside_parens» : Bool
+
+-- fn count_commas_impl(tree, offset, count, inside_parens): returns at a token that starts at the offset or after it
+unfoldable pub «count_commas_impl» : Forest → ℕ → Commas → Commas
+«count_commas_impl» nil offset c = c
+«count_commas_impl» (token t rest) offset c =
+    let counted : Commas =
+    cond (eqb (t .kind) openingRound) (record { count = 0; «inside_parens» = true })
+    (cond (eqb (t .kind) comma && c .«inside_parens») (record { count = c .count + 1; «inside_parens» = c .«inside_parens» }) c) in
+    let next : Commas = «count_commas_impl» rest offset counted in
+    cond (leb offset (t .start)) c next
+«count_commas_impl» (node subtree children rest) offset c =
+    let on : Commas = «count_commas_impl» rest offset c in
+    let next : Commas = «count_commas_impl» rest offset («count_commas_impl» children offset c) in
+    cond (ltb (subtree .end) (subtree .start)) on
+    (cond (eqb (subtree .kind) functionCall || eqb (subtree .kind) aggregateFunction) on next)
+
+-- fn count_commas_before(tree, offset)
+unfoldable pub «count_commas_before» : Forest → ℕ → ℕ
+«count_commas_before» children offset = «count_commas_impl» children offset (record { count = 0; «inside_parens» = false }) .count
+
+-- ---- the trailing clause
+
+-- the statements of `check_trailing_clause`
+abbrev pub isStatementLike : PathNode → Bool
+isStatementLike n =
+    oneOf
+    (selectStatement ∷ insertStatement ∷ createStatement ∷ alterStatement ∷ deleteStatement ∷ updateStatement ∷ [])
+    (n .tree .kind)
+
+-- its loop, with `last_clause` carried along
+unfoldable pub lastClause : Forest → ℕ → Option Rec → Option Rec
+lastClause nil offset «last_clause» = «last_clause»
+lastClause (token t rest) offset «last_clause» = lastClause rest offset «last_clause»
+lastClause (node subtree children rest) offset «last_clause» =
+    lastClause rest offset (cond (leb (subtree .start) offset) (some subtree) «last_clause»)
+
+-- its `match clause.kind`
+unfoldable pub trailing : ℕ → Option CursorContext
+trailing kind =
+    cond (oneOf (havingClause ∷ whereClause ∷ prewhereClause ∷ []) kind) (some Expression)
+    (cond (eqb kind fromClause) (some (TableReference Nameless))
+    (cond (eqb kind selectClause) (some SelectExpression)
+    (cond (oneOf (groupByClause ∷ orderByClause ∷ []) kind) (some Expression)
+    (cond (eqb kind settingsClause) (some SettingName)
+    (cond (eqb kind formatClause) (some FormatName)
+    none)))))
+
+-- `last_clause?`, then `if offset <= clause.end`
+unfoldable pub pastClause : ℕ → Option Rec → Option CursorContext
+pastClause offset none = none
+pastClause offset (some clause) = cond (leb offset (clause .end)) none (trailing (clause .kind))
+
+-- the `?` of the statement
+unfoldable pub trailingOf : ℕ → Option PathNode → Option CursorContext
+trailingOf offset none = none
+trailingOf offset (some stmt) = pastClause offset (lastClause (stmt .children) offset none)
+
+-- fn check_trailing_clause(path, offset)
+unfoldable pub «check_trailing_clause» : List PathNode → ℕ → Option CursorContext
+«check_trailing_clause» path offset = trailingOf offset (find isStatementLike (reverse path))
+
+-- ---- the rules of the path
+
+-- `i == path.len() - 1`, and the same `|| path[i + 1].kind == kind`, where next is the kind of `path[i + 1]` if there is one
+unfoldable pub isLast : Option ℕ → Bool
+isLast none = true
+isLast (some k) = false
+
+unfoldable pub isLastOr : ℕ → Option ℕ → Bool
+isLastOr kind none = true
+isLastOr kind (some k) = eqb k kind
+
+-- a JoinConstraint is met in `for pn in path.iter().rev()`
+unfoldable pub met : Option PathNode → Bool
+met none = false
+met (some n) = true
+
+-- the arm of a JOIN
+unfoldable pub joinArm : PathNode → List PathNode → List ℕ → ℕ → CursorContext
+joinArm n path source offset =
+    let prev : Option Before = «token_before_offset» (n .tree) (n .children) offset in
+    cond (saysWord (bytesOf "ON") source prev || saysWord (bytesOf "USING") source prev) Expression
+    (cond (met (find (λ (pn : PathNode). eqb (pn .tree .kind) joinConstraint) (reverse path))) Expression
+    («table_ref_or_dot» n source offset))
+
+-- the `match node.kind` of `analyze_path`: what it returns, if it returns
+unfoldable pub arm : PathNode → Option ℕ → List PathNode → List ℕ → ℕ → Option CursorContext
+arm n next path source offset =
+    let kind : ℕ = n .tree .kind in
+    cond (eqb kind fromClause) (some («table_ref_or_dot» n source offset))
+    (cond (eqb kind joinClause) (some (joinArm n path source offset))
+    (cond (eqb kind insertStatement) (cond (isLastOr tableIdentifier next) (some («table_ref_or_dot» n source offset)) none)
+    (cond (oneOf (settingsClause ∷ settingList ∷ []) kind) (some SettingName)
+    (cond (eqb kind engineClause) (some EngineName)
+    (cond (oneOf (formatClause ∷ insertFormatClause ∷ []) kind) (some FormatName)
+    (cond (oneOf (dataType ∷ columnTypeDefinition ∷ dataTypeParameters ∷ []) kind) (some DataType)
+    (cond (eqb kind columnDefinition) (cond (isLastOr error next) (some DataType) none)
+    (cond (eqb kind columnCodec) (some CodecName)
+    (cond (oneOf (functionCall ∷ aggregateFunction ∷ []) kind)
+    (some (FunctionArgument («extract_function_name» (n .children)) («count_commas_before» (n .children) offset)))
+    (cond (eqb kind selectClause) (some (returnOr («check_dot_access» n source offset) SelectExpression))
+    (cond (oneOf (whereClause ∷ havingClause ∷ prewhereClause ∷ groupByClause ∷ orderByClause ∷ []) kind)
+    (some (returnOr («check_dot_access» n source offset) Expression))
+    (cond (oneOf (file ∷ queryList ∷ []) kind) (cond (isLast next) (some StatementStart) none)
+    none))))))))))))
+
+-- the loop over `path.iter().enumerate().rev()`, and what stands behind it
+unfoldable pub ancestors : List PathNode → List ℕ → ℕ → CursorContext → Option ℕ → List PathNode → CursorContext
+ancestors path source offset behind next [] = behind
+ancestors path source offset behind next (n ∷ above) =
+    let on : CursorContext = ancestors path source offset behind (some (n .tree .kind)) above in
+    cond (eqb (n .tree .kind) error) on (returnOr (arm n next path source offset) on)
+
+-- `if let Some((prev_text, _))`, and prev_text is `;`; `else`
+unfoldable pub startsNext : List ℕ → Option Before → Bool
+startsNext source none = true
+startsNext source (some b) = isWord (bytesOf ";") source (some b)
+
+-- the fallback, by `path.first()`
+unfoldable pub fallback : List PathNode → List ℕ → ℕ → CursorContext
+fallback [] source offset = Unknown
+fallback (root ∷ path) source offset =
+    cond (eqb (root .tree .kind) file && startsNext source («token_before_offset» (root .tree) (root .children) offset)) StatementStart Unknown
+
+-- fn analyze_path(path, source, offset)
+unfoldable pub «analyze_path» : List PathNode → List ℕ → ℕ → CursorContext
+«analyze_path» [] source offset = Unknown
+«analyze_path» (root ∷ more) source offset =
+    let path : List PathNode = root ∷ more in
+    returnOr («check_trailing_clause» path offset) (ancestors path source offset (fallback path source offset) none (reverse path))
+
+-- fn cursor_context(tree, source, offset)
+unfoldable pub «cursor_context» : Rec → Forest → List ℕ → ℕ → CursorContext
+«cursor_context» tree children source offset = «analyze_path» («find_node_path» tree children offset) source offset
+
+-- ---- the second reading says the same
+
+-- the text of the token found, as a name
+unfoldable pub nameOf : Option Before → Name
+nameOf none = Nameless
+nameOf (some b) = Named (b .text)
+
+-- of record 0's tree and, of the functions that are handed a node of the path, of every record i
+pub record CursorContextRs (source t : List ℕ) (o : ℕ) : Type 0 where
+  pub path : map (λ (n : PathNode). n .tree) («find_node_path» (recordAt t 0 0) (kids (records 0 t)) o) ≡ pathAt t o
+  pub last-token : (i : ℕ) → nameOf («token_before_offset» (recordAt t 0 i) (inside t i) o) ≡ lastTwo o (inside t i) .last
+  pub before-dot : (i : ℕ) → «find_identifier_before_dot» (inside t i) source o ≡ dotted source (lastTwo o (inside t i))
+  pub function-name : (i : ℕ) → «extract_function_name» (inside t i) ≡ functionName (inside t i)
+  pub argument-index : (i : ℕ) → «count_commas_before» (inside t i) o ≡ arguments o (inside t i) .index
+  pub context : «cursor_context» (recordAt t 0 0) (kids (records 0 t)) source o ≡ contextAt source t o

@@ -1,0 +1,65 @@
+-- Demand 1: every question gives an answer or a refusal of document 01's table. A refusal is given exactly when its condition holds and
+-- none before it in the order does, with its detail; and then every byte of the lent buffer is as it was.
+-- Definitions only; it is a contract of `ask` (src/lib.rt), and proofs/Replies.antt says why it holds.
+use Prim.Native.Nat.{ℕ, _+_, _*_, _≤_, _<_}
+use mathlib.Core.Path.{_≡_}
+use mathlib.Core.Bool.{cond}
+use mathlib.Core.List.{List}
+use mathlib.Core.Logic.{_⊎_, _↔_}
+use mathlib.Core.Option.{some}
+use lib.ListN.{length}
+use lib.Dec.{eqb}
+use Rattle.table.specs.Table.{count, kindAt}
+use Rattle.table.specs.Exactly.{Node, Broken, place}
+use Rattle.desk.specs.Reply.{packed, answered}
+use Rattle.demands.specs.declared.Question.{Question}
+use Rattle.demands.specs.Questions.{Asked, Matter, matter, answerOf, saidBytes}
+
+-- ---- the conditions
+
+-- record i is no node of the table
+abbrev pub NoNode : List ℕ → ℕ → Type 0
+NoNode t i = i < count t → Node (kindAt t i) → ⊥
+
+-- condition k holds with detail d: 1 to 6 of the table, the source and the message; 8 of the root that is named; 7 of the room for the list
+pub data Holds (a : Asked) (m : Matter) (k d : ℕ) : Type 0 where
+  of-table : Broken (a .table) (length (a .source)) (m .message) k d → Holds a m k d
+  of-root : (i : ℕ) → m .root ≡ some i → k ≡ 8 → d ≡ 0 → NoNode (a .table) i → Holds a m k d
+  of-room : k ≡ 7 → d ≡ answerOf (m .said) → length (a .out) < length (saidBytes (m .said)) → Holds a m k d
+
+-- the place of condition k with detail d in the order, where the table has c records: 1, 2, then record by record 3, 4, 5, 6, then 8, then 7
+unfoldable pub placeIn : ℕ → ℕ → ℕ → ℕ
+placeIn c k d = cond (eqb k 8) (4 * c + 3) (cond (eqb k 7) (4 * c + 4) (place k d))
+
+-- condition k holds with detail d, and none before it in the order does
+pub record First (a : Asked) (m : Matter) (k d : ℕ) : Type 0 where
+  pub holds : Holds a m k d
+  pub none-before : (k′ d′ : ℕ) → Holds a m k′ d′ → placeIn (count (a .table)) k d ≤ placeIn (count (a .table)) k′ d′
+
+-- ---- the reply
+
+-- it is refusal k with detail d
+pub record Refusal (reply k d : ℕ) : Type 0 where
+  pub from : 1 ≤ k
+  pub to : k ≤ 8
+  pub is : reply ≡ packed k d
+
+-- it is an answer
+pub record Answer (reply : ℕ) : Type 0 where
+  pub said : ℕ
+  pub is : reply ≡ packed answered said
+
+-- it is a refusal
+pub record Refuses (reply : ℕ) : Type 0 where
+  pub number : ℕ
+  pub detail : ℕ
+  pub is : Refusal reply number detail
+
+-- ---- the demand, of a question, what it is asked, its reply and what is in the buffer afterwards
+pub record Demand1 (q : Question) (a : Asked) (reply : ℕ) (out : List ℕ) : Type 0 where
+  -- an answer or a refusal of the table
+  pub either : Answer reply ⊎ Refuses reply
+  -- a refusal is given exactly when its condition holds and none before it in the order does
+  pub exactly : (k d : ℕ) → Refusal reply k d ↔ First a (matter q a) k d
+  -- and then every byte of the lent buffer is as it was
+  pub kept : (k d : ℕ) → Refusal reply k d → out ≡ a .out

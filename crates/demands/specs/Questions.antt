@@ -1,0 +1,96 @@
+-- Every question: what it is asked, and what document 01 says to it.
+-- Definitions only.
+use Prim.Native.Nat.{ℕ}
+use mathlib.Core.List.{List, [], _∷_, _++_, map}
+use mathlib.Core.Option.{Option, none, some}
+use lib.ListN.{length, drop}
+use Rattle.table.specs.Lists.{listBytes}
+use Rattle.scope.specs.declared.scope.Enclosing.{Enclosing}
+use Rattle.scope.specs.declared.scope.Enclosing.the-variants.{Outside, Record}
+use Rattle.scope.specs.Classes.{classesOf, row as classRow}
+use Rattle.scope.specs.Brackets.{openersLeft, stackLeft, hintOf, row as openerRow}
+use Rattle.scope.specs.ScopeQuestions.{withNames, tableAliases, columnAliases, tableRefs, bindingRow, referenceRow}
+use Rattle.scope.specs.Statement.{enclosingAt}
+use Rattle.cursor.specs.Context.{contextAt}
+use Rattle.cursor.specs.Root.{rootAt}
+use Rattle.desk.specs.Reply.{none as nothing, hintRecord, contextRow}
+use Rattle.demands.specs.declared.Question.{Question}
+use Rattle.demands.specs.declared.Question.the-variants.{Check, TokenClasses, OpenersLeft, BracketHint, WithNames, TableAliases, ColumnAliases, TableRefs, CursorContext, EnclosingStatement, CursorRoot, WithNamesAt, TableAliasesAt, ColumnAliasesAt, TableRefsAt}
+
+-- all that a question can be asked, and the buffer that it is lent
+pub record Asked : Type 0 where
+  pub table : List ℕ
+  pub source : List ℕ
+  pub message : List ℕ
+  pub offset : ℕ
+  pub root : ℕ
+  pub out : List ℕ
+
+-- the same from its parts
+abbrev pub asked : List ℕ → List ℕ → List ℕ → ℕ → ℕ → List ℕ → Asked
+asked table source message offset root out =
+    record { table = table; source = source; message = message; offset = offset; root = root; out = out }
+
+-- what there is to say: a number, or a list, of whose entries each is a row of numbers
+pub data Said : Type 0 where
+  number : ℕ → Said
+  rows : List (List ℕ) → Said
+
+-- what a question is about: how long the message is that it takes, which root it names, and what document 01 says to it
+pub record Matter : Type 0 where
+  pub message : ℕ
+  pub root : Option ℕ
+  pub said : Said
+
+-- a question that takes no message and names no root; one that takes a message; one that names a root
+abbrev pub plain : Said → Matter
+plain s = record { message = 0; root = none; said = s }
+
+abbrev pub ofMessage : List ℕ → Said → Matter
+ofMessage m s = record { message = length m; root = none; said = s }
+
+abbrev pub ofRoot : ℕ → Said → Matter
+ofRoot i s = record { message = 0; root = some i; said = s }
+
+-- a list of entries
+abbrev pub list : {E : Type 0} → (E → List ℕ) → List E → Said
+list row es = rows (map row es)
+
+-- a statement's record, or none
+unfoldable pub statementRecord : Enclosing → ℕ
+statementRecord Outside = nothing
+statementRecord (Record n) = n
+
+-- each question
+unfoldable pub matter : Question → Asked → Matter
+matter Check a = plain (number 0)
+matter TokenClasses a = plain (list classRow (classesOf (a .source) (a .table)))
+matter OpenersLeft a = plain (list openerRow (openersLeft (a .table)))
+matter BracketHint a = ofMessage (a .message) (number (hintRecord (hintOf (a .message) (stackLeft (a .table)))))
+matter WithNames a = ofRoot (a .root) (list bindingRow (withNames (a .source) (a .table) (a .root)))
+matter TableAliases a = ofRoot (a .root) (list bindingRow (tableAliases (a .source) (a .table) (a .root)))
+matter ColumnAliases a = ofRoot (a .root) (list bindingRow (columnAliases (a .source) (a .table) (a .root)))
+matter TableRefs a = ofRoot (a .root) (list referenceRow (tableRefs (a .source) (a .table) (a .root)))
+matter CursorContext a = plain (list contextRow (contextAt (a .source) (a .table) (a .offset) ∷ []))
+matter EnclosingStatement a = plain (number (statementRecord (enclosingAt (a .table) (a .offset))))
+matter CursorRoot a = plain (number (rootAt (a .table) (a .offset)))
+matter WithNamesAt a = plain (list bindingRow (withNames (a .source) (a .table) (rootAt (a .table) (a .offset))))
+matter TableAliasesAt a = plain (list bindingRow (tableAliases (a .source) (a .table) (rootAt (a .table) (a .offset))))
+matter ColumnAliasesAt a = plain (list bindingRow (columnAliases (a .source) (a .table) (rootAt (a .table) (a .offset))))
+matter TableRefsAt a = plain (list referenceRow (tableRefs (a .source) (a .table) (rootAt (a .table) (a .offset))))
+
+-- ---- what is said, as a reply
+
+-- the answer's number: the number itself, or how many entries there are
+unfoldable pub answerOf : Said → ℕ
+answerOf (number n) = n
+answerOf (rows rs) = length rs
+
+-- the bytes of the entries
+unfoldable pub saidBytes : Said → List ℕ
+saidBytes (number n) = []
+saidBytes (rows rs) = listBytes (λ r. r) rs
+
+-- a buffer with them from its first byte on, and the bytes behind them kept
+abbrev pub written : Said → List ℕ → List ℕ
+written s out = saidBytes s ++ drop (length (saidBytes s)) out

@@ -1,0 +1,146 @@
+-- semantic_tokens.rs, statement by statement, up to the encoding: the second reading of document 01's token classes.
+-- Definitions only; the theorem is `semantic-tokens-rs` in proofs/SemanticTokensRs.antt.
+use Prim.Native.Nat.{ℕ}
+use mathlib.Core.Path.{_≡_}
+use mathlib.Core.Bool.{Bool, false, cond, not, _&&_}
+use mathlib.Core.List.{List, [], _∷_, map}
+use mathlib.Core.Option.{Option, none, some}
+use lib.Dec.{ltb, leb, eqb}
+use lib.ListN.{length}
+use Rattle.table.specs.declared.record.Rec.{Rec}
+use Rattle.table.specs.declared.check.Verdict.the-variants.{Admitted}
+use Rattle.table.specs.Kinds.{tableIdentifier, tableExpression, tableAlias, columnAlias, dataType, dataTypeParameters, nestedDataType, functionCall, aggregateFunction, tableFunction, identifier, columnReference, qualifiedName, queryParameterExpression, databaseDefinition, tableDefinition, viewDefinition, materializedViewDefinition, dictionaryDefinition, expression, comment, bareWord, quotedIdentifier, number, stringToken, hereDoc, plus, arrow}
+use Rattle.table.specs.Table.{kindAt, records}
+use Rattle.table.specs.Forest.{Forest, nil, token, node, kids}
+use Rattle.table.specs.Rules.{verdict}
+use Rattle.table.specs.Text.{bytesOf, upperWord, text}
+use Rattle.scope.specs.declared.semantic_tokens.ClassedToken.{ClassedToken}
+use Rattle.scope.specs.Keywords.{keywords, elem}
+use Rattle.scope.specs.Classes.{classesOf}
+use Rattle.cursor.specs.Path.{oneOf}
+use Rattle.demands.specs.Rust.{push}
+
+-- ---- the constants, and document 01's numbers
+
+abbrev pub «TT_KEYWORD» : ℕ
+«TT_KEYWORD» = 0
+
+abbrev pub «TT_FUNCTION» : ℕ
+«TT_FUNCTION» = 1
+
+abbrev pub «TT_STRING» : ℕ
+«TT_STRING» = 2
+
+abbrev pub «TT_NUMBER» : ℕ
+«TT_NUMBER» = 3
+
+abbrev pub «TT_COMMENT» : ℕ
+«TT_COMMENT» = 4
+
+abbrev pub «TT_OPERATOR» : ℕ
+«TT_OPERATOR» = 5
+
+abbrev pub «TT_VARIABLE» : ℕ
+«TT_VARIABLE» = 6
+
+abbrev pub «TT_TYPE» : ℕ
+«TT_TYPE» = 7
+
+abbrev pub «TT_PARAMETER» : ℕ
+«TT_PARAMETER» = 8
+
+abbrev pub «TT_PROPERTY» : ℕ
+«TT_PROPERTY» = 9
+
+-- ---- the functions
+
+-- fn is_keyword(text): `text.len() < 2` first; then `KEYWORDS.contains`, with the words of `KEYWORDS` in its order
+unfoldable pub «is_keyword» : List ℕ → Bool
+«is_keyword» word = cond (ltb (length word) 2) false (elem (upperWord word) (map bytesOf keywords))
+
+-- fn classify_identifier_by_parent(parent)
+unfoldable pub «classify_identifier_by_parent» : ℕ → Option ℕ
+«classify_identifier_by_parent» parent =
+    cond (oneOf (functionCall ∷ aggregateFunction ∷ tableFunction ∷ []) parent) (some «TT_FUNCTION»)
+    (cond (oneOf (dataType ∷ dataTypeParameters ∷ nestedDataType ∷ []) parent) (some «TT_TYPE»)
+    (cond (oneOf (tableIdentifier ∷ tableExpression ∷ tableAlias ∷ databaseDefinition ∷ tableDefinition ∷ []) parent) (some «TT_PROPERTY»)
+    (cond (oneOf (columnReference ∷ qualifiedName ∷ columnAlias ∷ identifier ∷ []) parent) (some «TT_VARIABLE»)
+    (some «TT_VARIABLE»))))
+
+-- the tables and databases of `classify_bareword`
+abbrev pub tables : List ℕ
+tables =
+    tableIdentifier
+    ∷ tableExpression
+    ∷ databaseDefinition
+    ∷ tableDefinition
+    ∷ viewDefinition
+    ∷ materializedViewDefinition
+    ∷ dictionaryDefinition
+    ∷ tableAlias
+    ∷ []
+
+-- fn classify_bareword(text, parent): one `if .. return` after the other
+unfoldable pub «classify_bareword» : List ℕ → ℕ → Option ℕ
+«classify_bareword» word parent =
+    cond (oneOf (dataType ∷ dataTypeParameters ∷ nestedDataType ∷ []) parent) (some «TT_TYPE»)
+    (cond (oneOf (functionCall ∷ aggregateFunction ∷ tableFunction ∷ []) parent && not («is_keyword» word)) (some «TT_FUNCTION»)
+    (cond (oneOf tables parent && not («is_keyword» word)) (some «TT_PROPERTY»)
+    (cond (eqb parent columnAlias && not («is_keyword» word)) (some «TT_VARIABLE»)
+    (cond (oneOf (columnReference ∷ qualifiedName ∷ identifier ∷ []) parent && not («is_keyword» word)) (some «TT_VARIABLE»)
+    (cond (eqb parent queryParameterExpression) (some «TT_PARAMETER»)
+    (cond («is_keyword» word) (some «TT_KEYWORD»)
+    (cond (eqb parent expression) (some «TT_VARIABLE»)
+    none)))))))
+
+-- the fifteen operators of `classify_token`, Plus to Arrow
+abbrev pub operators : List ℕ
+operators =
+    plus ∷ 144 ∷ 145 ∷ 146 ∷ 147 ∷ 148 ∷ 149 ∷ 150 ∷ 151 ∷ 152 ∷ 153 ∷ 154 ∷ 155 ∷ 156 ∷ arrow ∷ []
+
+-- fn classify_token(kind, start, end, source, parent)
+unfoldable pub «classify_token» : ℕ → ℕ → ℕ → List ℕ → ℕ → Option ℕ
+«classify_token» kind start end source parent =
+    cond (eqb kind comment) (some «TT_COMMENT»)
+    (cond (eqb kind number) (some «TT_NUMBER»)
+    (cond (oneOf (stringToken ∷ hereDoc ∷ []) kind) (some «TT_STRING»)
+    (cond (oneOf operators kind) (some «TT_OPERATOR»)
+    (cond (eqb kind quotedIdentifier) («classify_identifier_by_parent» parent)
+    (cond (eqb kind bareWord) («classify_bareword» (text source start end) parent)
+    none)))))
+
+-- `if let Some(tt) = ..`, then `out.push((token.start, token.end, tt))`
+unfoldable pub pushClass : List ClassedToken → Rec → Option ℕ → List ClassedToken
+pushClass out t none = out
+pushClass out t (some tt) = push out (record { start = t .start; end = t .end; class = tt })
+
+-- fn collect_tokens(tree, source, out), of a tree of this kind
+unfoldable pub «collect_tokens» : ℕ → Forest → List ℕ → List ClassedToken → List ClassedToken
+«collect_tokens» kind nil source out = out
+«collect_tokens» kind (token t rest) source out =
+    «collect_tokens» kind rest source (pushClass out t («classify_token» (t .kind) (t .start) (t .end) source kind))
+«collect_tokens» kind (node tree children rest) source out =
+    «collect_tokens» kind rest source («collect_tokens» (tree .kind) children source out)
+
+-- slice::sort_by_key by the start, which is stable: an entry goes before the first that starts later
+unfoldable pub insert : ClassedToken → List ClassedToken → List ClassedToken
+insert x [] = x ∷ []
+insert x (y ∷ ys) =
+    let on : List ClassedToken = y ∷ insert x ys in
+    cond (leb (x .start) (y .start)) (x ∷ y ∷ ys) on
+
+unfoldable pub sortByStart : List ClassedToken → List ClassedToken
+sortByStart [] = []
+sortByStart (x ∷ xs) = insert x (sortByStart xs)
+
+-- fn compute(tree, source, ..), its raw_tokens after the sort
+unfoldable pub compute : ℕ → Forest → List ℕ → List ClassedToken
+compute kind children source = sortByStart («collect_tokens» kind children source [])
+
+-- ---- the second reading says the same
+
+pub record SemanticTokensRs (source t : List ℕ) : Type 0 where
+  -- of every table, before the sort
+  pub collected : «collect_tokens» (kindAt t 0) (kids (records 0 t)) source [] ≡ classesOf source t
+  -- and of every admitted table after it: the tokens are in order
+  pub sorted : verdict t (length source) 0 ≡ Admitted → compute (kindAt t 0) (kids (records 0 t)) source ≡ classesOf source t
