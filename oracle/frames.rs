@@ -1,4 +1,6 @@
 //! Frames: a source, a table and a message, from a seed.
+use crate::text::lsp::semantic_tokens;
+
 pub const NONE: u32 = u32::MAX;
 pub const BARE_WORD: u32 = 131;
 pub const QUOTED: u32 = 132;
@@ -56,7 +58,7 @@ impl Seed {
         self.below(n) == 0
     }
 
-    fn of<T: Copy>(&mut self, all: &[T]) -> T {
+    pub fn of<T: Copy>(&mut self, all: &[T]) -> T {
         all[self.below(all.len())]
     }
 }
@@ -64,13 +66,16 @@ impl Seed {
 #[derive(Clone, Copy, PartialEq, Debug)]
 pub enum Sort {
     Query,
+    OneAlias,
+    HalfTyped,
+    Words,
     Random,
     Deep,
     Large,
     Damaged,
 }
 
-pub const SORTS: [Sort; 5] = [Sort::Query, Sort::Random, Sort::Deep, Sort::Large, Sort::Damaged];
+pub const SORTS: [Sort; 8] = [Sort::Query, Sort::OneAlias, Sort::HalfTyped, Sort::Words, Sort::Random, Sort::Deep, Sort::Large, Sort::Damaged];
 
 const MESSAGES: [&str; 9] = [
     "", "expected )", "expected ]", "expected }", "x expected ] or expected )", "expected", "unexpected )", "expected }, expected ]", "é expected )é",
@@ -79,6 +84,12 @@ const MESSAGES: [&str; 9] = [
 pub fn frame(sort: Sort, seed: &mut Seed) -> Frame {
     let mut f = match sort {
         Sort::Query => query(seed, 1),
+        Sort::OneAlias => one_alias(seed),
+        Sort::HalfTyped => half_typed(query(seed, 1), seed),
+        Sort::Words => {
+            let some: Vec<&str> = (0..40).map(|_| seed.of(semantic_tokens::words())).collect();
+            words(&some, seed)
+        }
         Sort::Random => {
             let most = seed.of(&[3, 6, 12, 25, 60]);
             let deepest = seed.of(&[3, 6, 12]);
@@ -283,6 +294,24 @@ impl Query<'_> {
         self.node(55, |q| if q.depth < 63 { q.well() } else { q.name() })
     }
 
+    /// A query whose inner queries give the same alias to tables of their own, with the alias typed in each.
+    fn one_alias(&mut self, alias: &str, left: usize) {
+        let inner = |q: &mut Self| q.node(30, |q| { q.token(137, "("); q.one_alias(alias, left - 1); q.token(140, ")") });
+        self.node(4, |q| {
+            q.node(15, |q| {
+                q.word("SELECT"); q.space();
+                q.node(47, |q| { q.token(BARE_WORD, alias); q.token(128, "."); if q.seed.one_in(2) { q.name() } });
+                if left > 0 { q.space(); q.token(136, ","); q.space(); inner(q) }
+            });
+            q.space();
+            q.node(16, |q| {
+                q.word("FROM"); q.space(); q.node(33, |q| q.name()); q.space();
+                q.node(35, |q| { if q.seed.one_in(3) { q.word("AS"); q.space() } q.token(BARE_WORD, alias) })
+            });
+            if left > 0 && q.seed.one_in(2) { q.space(); q.node(19, |q| { q.word("WHERE"); q.space(); inner(q) }) }
+        })
+    }
+
     fn other_statement(&mut self) {
         match self.seed.below(3) {
             0 => self.node(5, |q| { q.word("INSERT"); q.space(); q.word("INTO"); q.space(); q.table(0); q.space(); q.node(27, |q| { q.word("FORMAT"); q.space(); q.token(BARE_WORD, "CSV") }) }),
@@ -305,7 +334,7 @@ impl Query<'_> {
     }
 }
 
-fn empty() -> Frame {
+pub fn empty() -> Frame {
     Frame { source: Vec::new(), recs: Vec::new(), message: Vec::new(), rest: 0 }
 }
 
@@ -317,6 +346,47 @@ pub fn query(seed: &mut Seed, statements: usize) -> Frame {
             q.token(128, ";");
             if q.seed.one_in(2) { q.space() }
         }
+    });
+    q.f
+}
+
+fn one_alias(seed: &mut Seed) -> Frame {
+    let alias = seed.of(&WORDS);
+    let left = 1 + seed.below(2);
+    let mut q = Query { f: empty(), depth: 0, seed };
+    q.node(1, |q| q.one_alias(alias, left));
+    q.f
+}
+
+/// Only what stands before some token, as a page is while it is typed: a node that has no token yet is empty.
+fn half_typed(mut f: Frame, seed: &mut Seed) -> Frame {
+    let tokens: Vec<usize> = (0..f.recs.len()).filter(|&i| f.recs[i].is_token()).collect();
+    let cut = seed.of(&tokens);
+    f.source.truncate(f.recs[cut].start as usize);
+    f.recs.truncate(cut);
+    if f.recs.is_empty() { f.recs.push(Rec { kind: 1, depth: 0, start: NONE, end: 0 }) }
+    for i in (0..f.recs.len()).filter(|&i| !f.recs[i].is_token()).collect::<Vec<_>>() {
+        let below = f.recs[i + 1..].iter().take_while(|r| r.depth > f.recs[i].depth).filter(|r| r.is_token());
+        let (first, last) = below.fold((NONE, 0), |(a, _), r| (a.min(r.start), r.end));
+        (f.recs[i].start, f.recs[i].end) = (first, last);
+    }
+    f
+}
+
+/// Words of the Rust's list and near ones, each below a parent that judges it.
+pub fn words(all: &[&str], seed: &mut Seed) -> Frame {
+    let mut q = Query { f: empty(), depth: 0, seed };
+    q.node(1, |q| for word in all {
+        let mut text = word.to_string();
+        match q.seed.below(6) {
+            0 => text.push(q.seed.of(&['X', 'S', '1', 'ı'])),
+            1 => { text.pop(); }
+            2 => { let at = q.seed.below(text.len()); text.replace_range(at..at + 1, q.seed.of(&["Q", "_", "E", "ſ"])) }
+            _ => (),
+        }
+        if q.seed.one_in(2) { text = text.to_ascii_lowercase() }
+        let kind = if q.seed.one_in(2) { q.seed.of(&[0, 55]) } else { q.seed.below(56) as u32 };
+        q.node(kind, |q| q.token(BARE_WORD, &text))
     });
     q.f
 }

@@ -1,10 +1,14 @@
 //! The comparison with the Rust.
 //!   oracle compare FRAMES SEED [FLIP]                       compares; exit 1 at a difference. FLIP falsifies one of our answers (1 to 37)
+//!   oracle store FILE FRAMES SEED                           writes the stored list
+//!   oracle glance                                           prints what the program glance must print for its input
 //!   oracle measure QUESTION SIDE RECORDS DEPTH REPEATS      asks one side REPEATS times, for an instruction counter around it
 mod compare;
 mod desk;
 mod frames;
+mod glance;
 mod rust;
+mod store;
 mod text {
     include!(env!("ORACLE_TEXT"));
 }
@@ -12,13 +16,17 @@ pub use text::*;
 
 use compare::{difference, reduced, Tally, FLIP, FLIPS};
 use frames::{frame, Seed, Sort, SORTS};
+use std::io::{Read, Write};
 use std::sync::atomic::Ordering;
 
 /// How many frames of each sort in a round of 100: a large one costs as much as hundreds of small ones.
 fn sort_of(i: usize) -> Sort {
     match i % 100 {
-        0..=39 => Sort::Query,
-        40..=74 => Sort::Random,
+        0..=31 => Sort::Query,
+        32..=34 => Sort::OneAlias,
+        35..=39 => Sort::HalfTyped,
+        40..=42 => Sort::Words,
+        43..=74 => Sort::Random,
         75..=79 => Sort::Deep,
         99 if i % 1000 == 99 => Sort::Large,
         _ => Sort::Damaged,
@@ -26,7 +34,7 @@ fn sort_of(i: usize) -> Sort {
 }
 
 fn compare(frames: usize, seed: u64) -> bool {
-    let mut agreed = [0; 5];
+    let mut agreed = [0; SORTS.len()];
     let mut tally = Tally::default();
     for i in 0..frames {
         let sort = sort_of(i);
@@ -119,6 +127,18 @@ fn main() {
             assert!(flip <= FLIPS, "no such answer");
             FLIP.store(flip, Ordering::Relaxed);
             compare(number(1, 2000), number(2, 1) as u64)
+        }
+        Some("store") => match store::store(number(2, 2600), number(3, 1) as u64) {
+            Ok(list) => std::fs::write(&args[1], list).is_ok(),
+            Err(why) => { println!("{why}"); false }
+        },
+        Some("glance") => {
+            let mut input = Vec::new();
+            let read = std::io::stdin().read_to_end(&mut input).is_ok();
+            match glance::printed(&input) {
+                Ok(glance::Printed::Text(text)) => read && std::io::stdout().write_all(&text).is_ok(),
+                _ => false,
+            }
         }
         Some("measure") => {
             println!("{}", measure(&args[1], &args[2], number(3, 64), number(4, 10) as u32, number(5, 1)));

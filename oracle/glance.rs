@@ -1,0 +1,100 @@
+//! The program glance: its input lines, read anew from document 01's "Worked by hand", and what it must print for them by the Rust's answers.
+use crate::compare::refusal;
+use crate::frames::{Frame, Rec, NONE};
+use crate::rust::{Asked, Said};
+use std::fmt::Write;
+
+const MOST_SOURCE: usize = 4096;
+const MOST_RECORDS: usize = 1024;
+const REFERENCE_ROOM: usize = 16384;
+const REFERENCE_BYTES: usize = 28;
+
+/// A frame and an offset as input lines; none where a kind or a depth has no two digits.
+pub fn lines(f: &Frame, offset: u32) -> Option<Vec<u8>> {
+    let mut out: String = f.source.iter().map(|b| format!("{b:02x}")).collect();
+    write!(out, "\n{offset:08x}\n").ok()?;
+    for r in &f.recs {
+        if r.kind > 255 || r.depth > 255 {
+            return None;
+        }
+        writeln!(out, "{:02x}{:02x}{:08x}{:08x}", r.kind, r.depth, r.start, r.end).ok()?;
+    }
+    Some(out.into_bytes())
+}
+
+fn number(digits: &[u8]) -> u32 {
+    u32::from_str_radix(std::str::from_utf8(digits).expect("digits"), 16).expect("digits")
+}
+
+/// The frame and the offset that an input gives, or its first faulty line, counted from 1; a missing line is faulty at its place.
+pub fn read(input: &[u8]) -> Result<(Frame, u32), usize> {
+    let mut lines: Vec<&[u8]> = input.split(|&b| b == b'\n').collect();
+    let unended = lines.pop().is_some_and(|rest| !rest.is_empty());
+    for (i, line) in lines.iter().enumerate() {
+        let digits = line.iter().all(|b| matches!(b, b'0'..=b'9' | b'a'..=b'f'));
+        let fits = match i {
+            0 => line.len() % 2 == 0 && line.len() <= 2 * MOST_SOURCE,
+            1 => line.len() == 8,
+            _ => line.len() == 20 && i < 2 + MOST_RECORDS,
+        };
+        if !digits || !fits {
+            return Err(i + 1);
+        }
+    }
+    if lines.len() < 3 || unended {
+        return Err(lines.len() + 1);
+    }
+    let source = lines[0].chunks(2).map(|d| number(d) as u8).collect();
+    let record = |l: &&[u8]| Rec { kind: number(&l[..2]), depth: number(&l[2..4]), start: number(&l[4..12]), end: number(&l[12..]) };
+    Ok((Frame { source, recs: lines[2..].iter().map(record).collect(), message: Vec::new(), rest: 0 }, number(lines[1])))
+}
+
+/// What is to be printed, or why the Rust does not say: it stops at a lone quote mark, and it cannot be asked where a text is cut inside a character.
+pub enum Printed {
+    Text(Vec<u8>),
+    Stopped,
+    NoText,
+}
+
+fn range(out: &mut String, pair: &[u32]) {
+    if pair == [NONE, NONE] { out.push_str(" - -") } else { let _ = write!(out, " {} {}", pair[0], pair[1]); }
+}
+
+fn refused(number: u32, detail: u32) -> Result<Printed, String> {
+    Ok(Printed::Text(format!("R {number} {detail}\n").into_bytes()))
+}
+
+/// The whole output for an input.
+pub fn printed(input: &[u8]) -> Result<Printed, String> {
+    let (f, offset) = match read(input) {
+        Ok(said) => said,
+        Err(line) => return refused(9, line as u32),
+    };
+    if let Some((number, detail)) = refusal(&f, 0) {
+        return refused(number, detail);
+    }
+    let Some(rust) = Asked::new(&f) else { return Ok(Printed::NoText) };
+    let Said::Answer(lists) = rust.scope(0) else { return Ok(Printed::Stopped) };
+    let [_, _, _, references] = lists?;
+    if references.len() * REFERENCE_BYTES > REFERENCE_ROOM {
+        return refused(7, references.len() as u32);
+    }
+    let context = rust.context(offset)?;
+    let mut out = format!("C {}", context[0]);
+    range(&mut out, &context[1..3]);
+    let statement = rust.statement(offset);
+    let _ = write!(out, " {}\nS {}\n", context[3], if statement == NONE { "-".into() } else { statement.to_string() });
+    for row in &references {
+        let _ = write!(out, "T {}", row[0]);
+        row[1..].chunks(2).for_each(|pair| range(&mut out, pair));
+        out.push('\n');
+    }
+    for row in rust.classes() {
+        let _ = writeln!(out, "K {} {} {}", row[0], row[1], row[2]);
+    }
+    for row in rust.openers()? {
+        let _ = writeln!(out, "O {}", row[0]);
+    }
+    out.push_str("E\n");
+    Ok(Printed::Text(out.into_bytes()))
+}
