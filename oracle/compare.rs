@@ -13,14 +13,16 @@ pub struct Tally {
     pub lists: usize,
     pub entries: usize,
     pub contexts: [usize; 13],
+    pub glanced: usize,
 }
 
 /// Which of our answers is falsified, to see that it is found: 0 none, 1 the check, 2 the hint, 3 the statement,
-/// 4 the cursor's root, then the count, bytes and guard of each list of a table or root, the context, and each list at the cursor.
+/// 4 the cursor's root, then the count, bytes and guard of each list of a table or root, the context, and each list at the cursor; last,
+/// what glance prints.
 pub static FLIP: AtomicUsize = AtomicUsize::new(0);
-pub const FLIPS: usize = 4 + 3 * 11;
+pub const FLIPS: usize = 4 + 3 * 11 + 1;
 
-fn flipped(n: usize) -> bool {
+pub fn flipped(n: usize) -> bool {
     FLIP.load(Ordering::Relaxed) == n
 }
 
@@ -235,8 +237,7 @@ fn unstopped(f: &Frame, root: usize) -> Result<[Vec<Vec<u32>>; 4], String> {
 }
 
 /// The frame without records that the difference does not need.
-pub fn reduced(mut f: Frame) -> Frame {
-    let differs = |f: &Frame| difference(f, &mut Tally::default()).is_err();
+pub fn reduced(mut f: Frame, differs: impl Fn(&Frame) -> bool) -> Frame {
     let mut i = f.recs.len();
     while i > 0 {
         i = (i - 1).min(f.recs.len().saturating_sub(1));
@@ -249,7 +250,7 @@ pub fn reduced(mut f: Frame) -> Frame {
         for below in &mut lifted.recs[i..end - 1] {
             below.depth = below.depth.wrapping_sub(1);
         }
-        if let Some(smaller) = [without, lifted].into_iter().find(differs) {
+        if let Some(smaller) = [without, lifted].into_iter().find(&differs) {
             f = smaller;
             i = f.recs.len();
         }

@@ -1,8 +1,11 @@
 //! The program glance: its input lines, read anew from document 01's "Worked by hand", and what it must print for them by the Rust's answers.
-use crate::compare::refusal;
-use crate::frames::{Frame, Rec, NONE};
+use crate::compare::{flipped, reduced, refusal, Tally, FLIPS};
+use crate::frames::{Frame, Rec, Seed, NONE};
 use crate::rust::{Asked, Said};
+use crate::store::{inputs, offset, spoiled};
 use std::fmt::Write;
+use std::io::Write as _;
+use std::process::{Command, Stdio};
 
 const MOST_SOURCE: usize = 4096;
 const MOST_RECORDS: usize = 1024;
@@ -97,4 +100,60 @@ pub fn printed(input: &[u8]) -> Result<Printed, String> {
     }
     out.push_str("E\n");
     Ok(Printed::Text(out.into_bytes()))
+}
+
+/// The program itself: its words, and one in how many frames it is asked. No words: it is not asked.
+pub struct Program<'a> {
+    pub words: &'a [String],
+    pub every: usize,
+}
+
+impl Program<'_> {
+    pub fn asks(&self, i: usize) -> bool {
+        !self.words.is_empty() && i % self.every == 0
+    }
+
+    /// What it prints. It may stop reading at a faulty line, so that not all of the input is taken.
+    fn run(&self, input: &[u8]) -> std::io::Result<Vec<u8>> {
+        let mut child = Command::new(&self.words[0]).args(&self.words[1..]).stdin(Stdio::piped()).stdout(Stdio::piped()).spawn()?;
+        let _ = child.stdin.take().expect("piped").write_all(input);
+        let out = child.wait_with_output()?;
+        if out.status.success() { Ok(out.stdout) } else { Err(std::io::Error::other(out.status.to_string())) }
+    }
+
+    /// Does it print what the Rust's answers say? False where the Rust does not say.
+    fn agrees(&self, input: &[u8]) -> Result<bool, String> {
+        let Printed::Text(expected) = printed(input)? else { return Ok(false) };
+        let mut ours = self.run(input).map_err(|e| format!("glance cannot be run: {e}"))?;
+        if flipped(FLIPS) { ours.pop(); }
+        if ours == expected {
+            return Ok(true);
+        }
+        let show = |bytes: &[u8]| String::from_utf8_lossy(bytes).into_owned();
+        Err(format!("glance prints\n{}and by the Rust it is\n{}for the input\n{}", show(&ours), show(&expected), show(input)))
+    }
+
+    /// The inputs that are made by hand.
+    pub fn by_hand(&self, tally: &mut Tally) -> Result<(), String> {
+        for (sort, input) in inputs(0, 1).iter().filter(|_| self.asks(0)) {
+            tally.glanced += self.agrees(input).map_err(|why| format!("{sort}: {why}"))? as usize;
+        }
+        Ok(())
+    }
+
+    /// A frame at an offset, and at times with a spoiled line; where it differs, the smallest frame that still does.
+    pub fn frame(&self, i: usize, f: &Frame, seed: &mut Seed, tally: &mut Tally) -> Result<(), String> {
+        if !self.asks(i) || f.recs.is_empty() || f.rest > 0 {
+            return Ok(());
+        }
+        let at = offset(f, seed);
+        let Some(input) = lines(f, at) else { return Ok(()) };
+        if seed.one_in(8) {
+            tally.glanced += self.agrees(&spoiled(input, seed))? as usize;
+            return Ok(());
+        }
+        let differs = |f: &Frame| lines(f, at).and_then(|input| self.agrees(&input).err());
+        tally.glanced += self.agrees(&input).map_err(|_| differs(&reduced(f.clone(), |f| differs(f).is_some())).expect("still"))? as usize;
+        Ok(())
+    }
 }

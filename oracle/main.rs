@@ -1,5 +1,6 @@
 //! The comparison with the Rust.
-//!   oracle compare FRAMES SEED [FLIP]                       compares; exit 1 at a difference. FLIP falsifies one of our answers (1 to 37)
+//!   oracle compare FRAMES SEED FLIP EVERY GLANCE..          compares; exit 1 at a difference. FLIP falsifies one of our answers (1 to 38; 0 none).
+//!                                                           GLANCE.. is the program with its words, asked for one frame in EVERY
 //!   oracle store FILE FRAMES SEED                           writes the stored list
 //!   oracle glance                                           prints what the program glance must print for its input
 //!   oracle measure QUESTION SIDE RECORDS DEPTH REPEATS      asks one side REPEATS times, for an instruction counter around it
@@ -16,6 +17,7 @@ pub use text::*;
 
 use compare::{difference, reduced, Tally, FLIP, FLIPS};
 use frames::{frame, Seed, Sort, SORTS};
+use glance::Program;
 use std::io::{Read, Write};
 use std::sync::atomic::Ordering;
 
@@ -33,21 +35,29 @@ fn sort_of(i: usize) -> Sort {
     }
 }
 
-fn compare(frames: usize, seed: u64) -> bool {
+fn compare(frames: usize, seed: u64, glance: Program) -> bool {
     let mut agreed = [0; SORTS.len()];
     let mut tally = Tally::default();
+    if let Err(why) = glance.by_hand(&mut tally) {
+        println!("{why}");
+        return false;
+    }
     for i in 0..frames {
         let sort = sort_of(i);
         let mut s = Seed((seed << 32 | i as u64).wrapping_mul(0x9E3779B97F4A7C15) | 1);
         let f = frame(sort, &mut s);
         if let Err(first) = difference(&f, &mut tally) {
-            let small = reduced(f);
+            let small = reduced(f, |f| difference(f, &mut Tally::default()).is_err());
             println!("frame {i} of seed {seed} ({sort:?}) differs: {first}");
             println!("the smallest: {}", difference(&small, &mut Tally::default()).expect_err("still"));
             println!("source {:?}\nmessage {:?}, {} bytes behind the records", String::from_utf8_lossy(&small.source), String::from_utf8_lossy(&small.message), small.rest);
             for (i, r) in small.recs.iter().enumerate() {
                 println!("{i}: kind {} depth {} {} {} {:?}", r.kind, r.depth, r.start, r.end, String::from_utf8_lossy(small.text(i)));
             }
+            return false;
+        }
+        if let Err(why) = glance.frame(i, &f, &mut s, &mut tally) {
+            println!("frame {i} of seed {seed} ({sort:?}) differs: {why}");
             return false;
         }
         agreed[SORTS.iter().position(|&x| x == sort).expect("one")] += 1;
@@ -59,6 +69,7 @@ fn compare(frames: usize, seed: u64) -> bool {
     println!("the Rust stopped at a lone quote mark {} times", tally.stopped);
     println!("refusals by number: {:?}", &tally.refused[1..]);
     println!("contexts by number: {:?}", tally.contexts);
+    if glance.asks(0) { println!("{} inputs agreed through glance, those made by hand and one for each {} of these frames", tally.glanced, glance.every) }
     true
 }
 
@@ -126,7 +137,7 @@ fn main() {
             let flip = number(3, 0);
             assert!(flip <= FLIPS, "no such answer");
             FLIP.store(flip, Ordering::Relaxed);
-            compare(number(1, 2000), number(2, 1) as u64)
+            compare(number(1, 2000), number(2, 1) as u64, Program { words: args.get(5..).unwrap_or(&[]), every: number(4, 1) })
         }
         Some("store") => match store::store(number(2, 2600), number(3, 1) as u64) {
             Ok(list) => std::fs::write(&args[1], list).is_ok(),

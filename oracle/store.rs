@@ -213,7 +213,7 @@ fn bad_lines(out: &mut Inputs) {
 }
 
 /// A byte changed, left out or put in, a line lost or doubled: most are faulty lines, the rest are other frames.
-fn spoiled(mut input: Vec<u8>, seed: &mut Seed) -> Vec<u8> {
+pub fn spoiled(mut input: Vec<u8>, seed: &mut Seed) -> Vec<u8> {
     let at = seed.below(input.len());
     match seed.below(5) {
         0 => input[at] = seed.of(b"0189afAFgG/:`@ \r\n\xc3\xff\0"),
@@ -226,7 +226,7 @@ fn spoiled(mut input: Vec<u8>, seed: &mut Seed) -> Vec<u8> {
 }
 
 /// Where to ask: often at a dot, or in a node of a context that is rare.
-fn offset(f: &Frame, seed: &mut Seed) -> u32 {
+pub fn offset(f: &Frame, seed: &mut Seed) -> u32 {
     let end = f.source.len() as u32;
     let dots: Vec<u32> = (0..f.recs.len()).filter(|&i| f.text(i) == b".").flat_map(|i| [f.recs[i].start, f.recs[i].end]).collect();
     let rare: Vec<u32> = f.recs.iter().filter(|r| matches!(r.kind, 23..=27 | 37..=44)).flat_map(|r| [r.start, r.end]).collect();
@@ -285,8 +285,8 @@ fn large(seed: &mut Seed) -> (Frame, u32) {
     }
 }
 
-/// The list's bytes; it says on the way what was stored.
-pub fn store(frames: usize, seed: u64) -> Result<Vec<u8>, String> {
+/// Inputs with the name of their sort: those made by hand, then so many from the seed that there are `frames`.
+pub fn inputs(frames: usize, seed: u64) -> Vec<(&'static str, Vec<u8>)> {
     let mut inputs = Inputs { all: Vec::new(), known: HashSet::new() };
     let mut seed = Seed(seed.wrapping_mul(0x9E3779B97F4A7C15) | 1);
     worked(&mut inputs);
@@ -295,10 +295,15 @@ pub fn store(frames: usize, seed: u64) -> Result<Vec<u8>, String> {
     boundaries(&mut inputs);
     bad_lines(&mut inputs);
     from_seed(&mut inputs, frames, &mut seed);
+    inputs.all
+}
+
+/// The list's bytes; it says on the way what was stored.
+pub fn store(frames: usize, seed: u64) -> Result<Vec<u8>, String> {
     let mut list = Vec::new();
     let mut sorts: Vec<(&str, usize, usize)> = Vec::new();
     let (mut refusals, mut stopped, mut no_text) = ([0; 10], 0, 0);
-    for (i, (sort, input)) in inputs.all.iter().enumerate() {
+    for (i, (sort, input)) in inputs(frames, seed).iter().enumerate() {
         let answer = match printed(input)? {
             Printed::Text(text) => text,
             Printed::Stopped => { stopped += 1; continue }
