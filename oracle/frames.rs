@@ -444,6 +444,10 @@ pub fn random(seed: &mut Seed, most: usize, deepest: u32) -> Frame {
     }
     f.source.extend(seed.of(&["", "", " ", "é"]).as_bytes());
     let len = f.source.len();
+    // at times bytes that are no text
+    if seed.one_in(10) && len > 0 {
+        for _ in 0..1 + seed.below(4) { let at = seed.below(len); f.source[at] = 128 + seed.below(128) as u8 }
+    }
     for r in f.recs.iter_mut().filter(|r| r.kind < 128) {
         (r.start, r.end) = match seed.below(6) {
             0 => (NONE, 0),

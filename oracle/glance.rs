@@ -1,7 +1,7 @@
 //! The program glance: its input lines, read anew from document 01's "Worked by hand", and what it must print for them by the Rust's answers.
 use crate::compare::{flipped, reduced, refusal, Tally, FLIPS};
 use crate::frames::{Frame, Rec, Seed, NONE};
-use crate::rust::{Asked, Said};
+use crate::rust::{in_ascii, without_lone_quotes, Asked, Said};
 use crate::store::{inputs, offset, spoiled};
 use std::fmt::Write;
 use std::io::Write as _;
@@ -69,14 +69,23 @@ fn refused(number: u32, detail: u32) -> Result<Printed, String> {
 
 /// The whole output for an input.
 pub fn printed(input: &[u8]) -> Result<Printed, String> {
-    let (f, offset) = match read(input) {
-        Ok(said) => said,
-        Err(line) => return refused(9, line as u32),
-    };
-    if let Some((number, detail)) = refusal(&f, 0) {
-        return refused(number, detail);
+    match read(input) {
+        Ok((f, offset)) => refusal(&f, 0).map_or_else(|| answered(&f, offset), |(number, detail)| refused(number, detail)),
+        Err(line) => refused(9, line as u32),
     }
-    let Some(rust) = Asked::new(&f) else { return Ok(Printed::NoText) };
+}
+
+/// The same, and where the Rust does not say, what it says of the frame with a letter for a lone quote mark and a mark for a byte over 127.
+fn printed_by_all(input: &[u8]) -> Result<Printed, String> {
+    let said = printed(input)?;
+    match (&said, read(input)) {
+        (Printed::Stopped | Printed::NoText, Ok((f, offset))) => answered(&without_lone_quotes(&in_ascii(&f)), offset),
+        _ => Ok(said),
+    }
+}
+
+fn answered(f: &Frame, offset: u32) -> Result<Printed, String> {
+    let Some(rust) = Asked::new(f) else { return Ok(Printed::NoText) };
     let Said::Answer(lists) = rust.scope(0) else { return Ok(Printed::Stopped) };
     let [_, _, _, references] = lists?;
     if references.len() * REFERENCE_BYTES > REFERENCE_ROOM {
@@ -121,13 +130,13 @@ impl Program<'_> {
         if out.status.success() { Ok(out.stdout) } else { Err(std::io::Error::other(out.status.to_string())) }
     }
 
-    /// Does it print what the Rust's answers say? False where the Rust does not say.
-    fn agrees(&self, input: &[u8]) -> Result<bool, String> {
-        let Printed::Text(expected) = printed(input)? else { return Ok(false) };
+    /// Does it print what the Rust's answers say?
+    fn agrees(&self, input: &[u8]) -> Result<(), String> {
+        let Printed::Text(expected) = printed_by_all(input)? else { return Err("the Rust stops with no lone quote mark".into()) };
         let mut ours = self.run(input).map_err(|e| format!("glance cannot be run: {e}"))?;
         if flipped(FLIPS) { ours.pop(); }
         if ours == expected {
-            return Ok(true);
+            return Ok(());
         }
         let show = |bytes: &[u8]| String::from_utf8_lossy(bytes).into_owned();
         Err(format!("glance prints\n{}and by the Rust it is\n{}for the input\n{}", show(&ours), show(&expected), show(input)))
@@ -136,7 +145,8 @@ impl Program<'_> {
     /// The inputs that are made by hand.
     pub fn by_hand(&self, tally: &mut Tally) -> Result<(), String> {
         for (sort, input) in inputs(0, 1).iter().filter(|_| self.asks(0)) {
-            tally.glanced += self.agrees(input).map_err(|why| format!("{sort}: {why}"))? as usize;
+            self.agrees(input).map_err(|why| format!("{sort}: {why}"))?;
+            tally.glanced += 1;
         }
         Ok(())
     }
@@ -148,12 +158,11 @@ impl Program<'_> {
         }
         let at = offset(f, seed);
         let Some(input) = lines(f, at) else { return Ok(()) };
-        if seed.one_in(8) {
-            tally.glanced += self.agrees(&spoiled(input, seed))? as usize;
-            return Ok(());
-        }
         let differs = |f: &Frame| lines(f, at).and_then(|input| self.agrees(&input).err());
-        tally.glanced += self.agrees(&input).map_err(|_| differs(&reduced(f.clone(), |f| differs(f).is_some())).expect("still"))? as usize;
-        Ok(())
+        tally.glanced += 1;
+        if seed.one_in(8) {
+            return self.agrees(&spoiled(input, seed));
+        }
+        self.agrees(&input).map_err(|_| differs(&reduced(f.clone(), |f| differs(f).is_some())).expect("still"))
     }
 }

@@ -1,6 +1,7 @@
 //! The comparison with the Rust.
 //!   oracle compare FRAMES SEED FLIP EVERY GLANCE..          compares; exit 1 at a difference. FLIP falsifies one of our answers (1 to 38; 0 none).
 //!                                                           GLANCE.. is the program with its words, asked for one frame in EVERY
+//!   oracle listed                                           asks both sides the frames of the listed differences
 //!   oracle store FILE FRAMES SEED                           writes the stored list
 //!   oracle glance                                           prints what the program glance must print for its input
 //!   oracle measure QUESTION SIDE RECORDS DEPTH REPEATS      asks one side REPEATS times, for an instruction counter around it
@@ -8,6 +9,7 @@ mod compare;
 mod desk;
 mod frames;
 mod glance;
+mod listed;
 mod rust;
 mod store;
 mod text {
@@ -66,7 +68,7 @@ fn compare(frames: usize, seed: u64, glance: Program) -> bool {
         println!("{n} frames {sort:?} agreed");
     }
     println!("{} of them asked the Rust; {} lists with {} entries, each in five rooms", tally.rust_asked, tally.lists, tally.entries);
-    println!("the Rust stopped at a lone quote mark {} times", tally.stopped);
+    println!("the Rust stopped at a lone quote mark {} times; {} frames are no text, and were asked with a mark for each byte over 127", tally.stopped, tally.no_text);
     println!("refusals by number: {:?}", &tally.refused[1..]);
     println!("contexts by number: {:?}", tally.contexts);
     if glance.asks(0) { println!("{} inputs agreed through glance, those made by hand and one for each {} of these frames", tally.glanced, glance.every) }
@@ -85,10 +87,7 @@ fn page(records: usize, deep: bool) -> frames::Frame {
 }
 
 fn measure(question: &str, side: &str, records: usize, depth: u32, repeats: usize) -> usize {
-    let mut f = page(records, depth == 63);
-    for i in rust::lone_quotes(&f) {
-        f.source[f.recs[i].start as usize] = b'x';
-    }
+    let f = rust::without_lone_quotes(&page(records, depth == 63));
     if question == "shape" {
         println!("{} records, {} tokens, deepest {}", f.recs.len(), f.recs.iter().filter(|r| r.is_token()).count(), f.recs.iter().map(|r| r.depth).max().unwrap_or(0));
         return 0;
@@ -139,6 +138,7 @@ fn main() {
             FLIP.store(flip, Ordering::Relaxed);
             compare(number(1, 2000), number(2, 1) as u64, Program { words: args.get(5..).unwrap_or(&[]), every: number(4, 1) })
         }
+        Some("listed") => listed::listed(),
         Some("store") => match store::store(number(2, 2600), number(3, 1) as u64) {
             Ok(list) => std::fs::write(&args[1], list).is_ok(),
             Err(why) => { println!("{why}"); false }

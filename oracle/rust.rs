@@ -91,7 +91,7 @@ pub fn node_at(tree: &SyntaxTree, record: usize) -> &SyntaxTree {
 
 /// A frame as the Rust gets it, with its twins.
 pub struct Asked<'a> {
-    frame: &'a Frame,
+    pub frame: &'a Frame,
     source: &'a str,
     tree: SyntaxTree,
     twin: Twin,
@@ -361,7 +361,45 @@ impl<'a> Asked<'a> {
     }
 }
 
-/// The kinds of token whose name is unquoted where it stands below an item or an alias.
-pub fn lone_quotes(frame: &Frame) -> Vec<usize> {
-    (0..frame.recs.len()).filter(|&i| frame.recs[i].kind == QUOTED && frame.text(i).len() == 1 && quote(frame.text(i)[0])).collect()
+/// What the Rust says of a frame that is not looked at first; a source that is no text it cannot be given.
+#[derive(Debug)]
+pub enum Text {
+    Said(String),
+    Stopped(String),
+    NoText,
+}
+
+pub fn asked_of_text(frame: &Frame, q: List) -> Text {
+    let Ok(source) = std::str::from_utf8(&frame.source) else { return Text::NoText };
+    let tree = tree_of(&frame.recs);
+    ASKING.store(true, Ordering::Relaxed);
+    let run = catch_unwind(AssertUnwindSafe(|| match q {
+        List::Classes => {
+            let mut out = Vec::new();
+            semantic_tokens::probe(&tree, source, &mut out);
+            format!("{out:?}")
+        }
+        List::Context => format!("{:?}", cursor_context(&tree, source, 0)),
+        _ => format!("{:?}", build_scope(&tree, source)),
+    }));
+    ASKING.store(false, Ordering::Relaxed);
+    run.map_or_else(|why| Text::Stopped(why.downcast_ref::<String>().cloned().unwrap_or_default()), Text::Said)
+}
+
+/// A lone quote mark stops the Rust, and ours keeps it: the frame with a letter in its place.
+pub fn without_lone_quotes(frame: &Frame) -> Frame {
+    let lone = |&i: &usize| frame.recs[i].kind == QUOTED && frame.text(i).len() == 1 && quote(frame.text(i)[0]);
+    let mut other = frame.clone();
+    for i in (0..frame.recs.len()).filter(lone) {
+        other.source[frame.recs[i].start as usize] = b'x';
+    }
+    other
+}
+
+/// The Rust cannot be asked where the source or a token is no text, and ours answers by bytes: the frame with one mark for each byte over 127.
+/// Every test of a text, by the Rust and by document 01, is for words and marks of ASCII.
+pub fn in_ascii(frame: &Frame) -> Frame {
+    let mut other = frame.clone();
+    other.source.iter_mut().filter(|b| **b > 127).for_each(|b| *b = b'~');
+    other
 }

@@ -13,7 +13,7 @@ const WORKED_RECORDS: [(u32, u32, u32, u32); 17] = [
 ];
 const WORKED_AT_9: &str = "C 3 7 8 0\nS 1\nT 12 - - 15 18 19 20\nK 0 6 0\nK 7 8 6\nK 10 14 0\nK 15 18 9\nK 19 20 9\nE\n";
 
-fn made(source: &str, recs: &[(u32, u32, u32, u32)]) -> Frame {
+pub fn made(source: &str, recs: &[(u32, u32, u32, u32)]) -> Frame {
     let recs = recs.iter().map(|&(kind, depth, start, end)| Rec { kind, depth, start, end }).collect();
     Frame { source: source.into(), recs, ..empty() }
 }
@@ -242,11 +242,12 @@ pub fn offset(f: &Frame, seed: &mut Seed) -> u32 {
     }
 }
 
-/// A frame of a sort within glance's limits, of at most so many records.
+/// A frame of a sort within glance's limits, of at most so many records, whose source is a text.
 fn small(sort: Sort, most: usize, seed: &mut Seed) -> (Frame, u32) {
     loop {
         let f = frame(sort, seed);
-        if f.recs.len() <= most && f.source.len() <= 4096 && f.rest == 0 && !f.recs.is_empty() && lines(&f, 0).is_some() {
+        let fits = f.recs.len() <= most && f.source.len() <= 4096 && f.rest == 0 && !f.recs.is_empty();
+        if fits && std::str::from_utf8(&f.source).is_ok() && lines(&f, 0).is_some() {
             let at = offset(&f, seed);
             return (f, at);
         }
@@ -278,7 +279,7 @@ fn from_seed(out: &mut Inputs, frames: usize, seed: &mut Seed) {
 fn large(seed: &mut Seed) -> (Frame, u32) {
     loop {
         let f = frame(Sort::Large, seed);
-        if f.recs.len() == 1024 && f.source.len() <= 4096 {
+        if f.recs.len() == 1024 && f.source.len() <= 4096 && std::str::from_utf8(&f.source).is_ok() {
             let at = offset(&f, seed);
             return (f, at);
         }
