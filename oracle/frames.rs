@@ -95,12 +95,12 @@ pub fn frame(sort: Sort, seed: &mut Seed) -> Frame {
             let deepest = seed.of(&[3, 6, 12]);
             random(seed, most, deepest)
         }
-        Sort::Deep => if seed.one_in(2) { random(seed, 200, 63) } else { page(seed, 260, true) },
+        Sort::Deep => if seed.one_in(2) { random(seed, 200, 63) } else { page(seed, 260, 63) },
         Sort::Large => {
             let n = seed.of(&[1024, 4096]);
             match seed.below(4) {
                 0 | 1 => random(seed, n, 63),
-                k => page(seed, n, k == 3),
+                k => page(seed, n, [62, 63][k - 2]),
             }
         }
         Sort::Damaged => {
@@ -121,6 +121,8 @@ pub fn frame(sort: Sort, seed: &mut Seed) -> Frame {
 struct Query<'a> {
     f: Frame,
     depth: u32,
+    /// No record stands deeper: what a node there would hold stands in its place.
+    deepest: u32,
     seed: &'a mut Seed,
 }
 
@@ -159,6 +161,9 @@ impl Query<'_> {
 
     /// A node over what `inside` makes: from its first token to its last; empty where it has none.
     fn node(&mut self, kind: u32, inside: impl FnOnce(&mut Self)) {
+        if self.depth >= self.deepest {
+            return inside(self);
+        }
         let at = self.f.recs.len();
         self.f.recs.push(Rec { kind, depth: self.depth, start: NONE, end: 0 });
         self.depth += 1;
@@ -339,7 +344,7 @@ pub fn empty() -> Frame {
 }
 
 pub fn query(seed: &mut Seed, statements: usize) -> Frame {
-    let mut q = Query { f: empty(), depth: 0, seed };
+    let mut q = Query { f: empty(), depth: 0, deepest: 63, seed };
     q.node(1, |q| {
         for _ in 0..statements {
             if q.seed.one_in(6) { q.other_statement() } else { let left = q.seed.below(4); q.select(left) }
@@ -353,7 +358,7 @@ pub fn query(seed: &mut Seed, statements: usize) -> Frame {
 fn one_alias(seed: &mut Seed) -> Frame {
     let alias = seed.of(&WORDS);
     let left = 1 + seed.below(2);
-    let mut q = Query { f: empty(), depth: 0, seed };
+    let mut q = Query { f: empty(), depth: 0, deepest: 63, seed };
     q.node(1, |q| q.one_alias(alias, left));
     q.f
 }
@@ -375,7 +380,7 @@ fn half_typed(mut f: Frame, seed: &mut Seed) -> Frame {
 
 /// Words of the Rust's list and near ones, each below a parent that judges it.
 pub fn words(all: &[&str], seed: &mut Seed) -> Frame {
-    let mut q = Query { f: empty(), depth: 0, seed };
+    let mut q = Query { f: empty(), depth: 0, deepest: 63, seed };
     q.node(1, |q| for word in all {
         let mut text = word.to_string();
         match q.seed.below(6) {
@@ -391,14 +396,16 @@ pub fn words(all: &[&str], seed: &mut Seed) -> Frame {
     q.f
 }
 
-/// A page of statements of exactly n records: a statement that does not fit is left out, and after some of those spaces fill up.
-pub fn page(seed: &mut Seed, n: usize, deep: bool) -> Frame {
-    let mut q = Query { f: empty(), depth: 0, seed };
+/// A page of statements of exactly n records, none deeper than said; at 63 queries over queries. A statement that does not fit is left out, and
+/// after some of those spaces fill up.
+pub fn page(seed: &mut Seed, n: usize, deepest: u32) -> Frame {
+    let mut q = Query { f: empty(), depth: 0, deepest, seed };
     q.node(1, |q| {
         let mut misfits = 0;
+        if deepest == 63 && n == 64 { q.well() } // the one way to be so deep with so few
         while misfits < 60 {
             let (records, bytes) = (q.f.recs.len(), q.f.source.len());
-            if deep && misfits < 20 { q.nested() } else { let left = q.seed.below(4 - misfits / 20); q.select(left) }
+            if deepest == 63 && misfits < 20 { q.nested() } else { let left = q.seed.below(4 - misfits / 20); q.select(left) }
             q.token(128, ";");
             if q.f.recs.len() > n || q.f.source.len() > 60000 {
                 q.f.recs.truncate(records);

@@ -4,12 +4,13 @@
 //!   oracle listed                                           asks both sides the frames of the listed differences
 //!   oracle store FILE FRAMES SEED                           writes the stored list
 //!   oracle glance                                           prints what the program glance must print for its input
-//!   oracle measure QUESTION SIDE RECORDS DEPTH REPEATS      asks one side REPEATS times, for an instruction counter around it
+//!   oracle measure                                          asks each side each question between marks, for an instruction counter around it
 mod compare;
 mod desk;
 mod frames;
 mod glance;
 mod listed;
+mod measure;
 mod rust;
 mod store;
 mod text {
@@ -75,57 +76,6 @@ fn compare(frames: usize, seed: u64, glance: Program) -> bool {
     true
 }
 
-/// A page for measuring: statements as people write them, or queries over queries to depth 63. It has few spaces that only fill it up, and the
-/// statements as people write them have a table for every hundred records.
-fn page(records: usize, deep: bool) -> frames::Frame {
-    let fits = |f: &frames::Frame| {
-        let filling = f.recs.iter().rev().take_while(|r| r.kind == 129).count();
-        let tables = f.recs.iter().filter(|r| r.kind == frames::TABLE_IDENTIFIER).count();
-        filling <= records / 8 && (deep || tables >= records / 100)
-    };
-    (1..200).map(|seed| frames::page(&mut Seed(seed), records, deep)).find(fits).expect("one")
-}
-
-fn measure(question: &str, side: &str, records: usize, depth: u32, repeats: usize) -> usize {
-    let f = rust::without_lone_quotes(&page(records, depth == 63));
-    if question == "shape" {
-        println!("{} records, {} tokens, deepest {}", f.recs.len(), f.recs.iter().filter(|r| r.is_token()).count(), f.recs.iter().map(|r| r.depth).max().unwrap_or(0));
-        return 0;
-    }
-    let table = f.table();
-    let asked = rust::Asked::new(&f).expect("UTF-8");
-    let mut out = vec![0; 56 * records];
-    let lists: &[desk::List] = match question {
-        "classes" => &[desk::List::Classes],
-        "openers" => &[desk::List::Openers],
-        "scope" => &desk::SCOPE,
-        "with" => &desk::SCOPE[..1],
-        "aliases" => &desk::SCOPE[1..2],
-        "columns" => &desk::SCOPE[2..3],
-        "refs" => &desk::SCOPE[3..],
-        "context-top" | "context-middle" | "context-end" => &[desk::List::Context],
-        "check" => &[],
-        _ => panic!("classes, openers, scope, with, aliases, columns, refs, context-top, context-middle, context-end, check or shape"),
-    };
-    let end = f.source.len() as u32;
-    let of = match question {
-        "context-top" => desk::Of::Cursor(0),
-        "context-middle" => desk::Of::Cursor(end / 2),
-        "context-end" => desk::Of::Cursor(end),
-        _ => desk::Of::Root(0),
-    };
-    let mut sum = 0;
-    for _ in 0..repeats {
-        match side {
-            "rust" => sum += asked.measure(lists[0], of),
-            "ours" if lists.is_empty() => sum += desk::check(std::hint::black_box(&table), &f.source).1 as usize,
-            "ours" => for &q in lists { sum += desk::list(q, std::hint::black_box(&table), &f.source, of, &mut out).1 as usize },
-            _ => panic!("ours or rust"),
-        }
-    }
-    sum
-}
-
 fn main() {
     // a stop of the Rust is caught and counted; it need not be printed
     std::panic::set_hook(Box::new(|p| if !rust::ASKING.load(Ordering::Relaxed) { eprintln!("{p}") }));
@@ -152,7 +102,7 @@ fn main() {
             }
         }
         Some("measure") => {
-            println!("{}", measure(&args[1], &args[2], number(3, 64), number(4, 10) as u32, number(5, 1)));
+            measure::measure();
             true
         }
         _ => false,

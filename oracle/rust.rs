@@ -1,6 +1,6 @@
 //! The Rust's answers, as our questions give them. A name comes back as a String; where it stands is found by a second run of the same
 //! function over a twin, whose token texts tell the records apart, and the first run's text is compared with the bytes at that place.
-use crate::desk::{List, Of};
+use crate::desk::List;
 use crate::frames::{Frame, Rec, BARE_WORD, NONE, QUOTED, TABLE_IDENTIFIER};
 use crate::text::analysis::cursor_context::{cursor_context, CursorContext};
 use crate::text::analysis::scope::{build_scope, find_enclosing_statement, NameBinding, QueryScope};
@@ -228,8 +228,7 @@ impl<'a> Asked<'a> {
     /// The opener's record, or 4294967295.
     pub fn hint(&self, message: &str) -> Result<u32, String> {
         let ask = |tree: &SyntaxTree| {
-            let d = Diagnostic { message: message.into(), range: (0, 0), severity: Severity::Error, code: None, suggestion: None, related: Vec::new() };
-            let mut all = [d];
+            let mut all = [diagnostic(message)];
             bracket_matching::enrich(&mut all, tree);
             all[0].related.iter().map(|r| r.range).collect::<Vec<_>>()
         };
@@ -344,7 +343,7 @@ impl<'a> Asked<'a> {
     }
 
     /// For measuring: the Rust's own functions on the tree, with nothing around them.
-    pub fn measure(&self, q: List, of: Of) -> usize {
+    pub fn measure(&self, q: List, offset: u32) -> usize {
         match q {
             List::Classes => {
                 let mut out = Vec::new();
@@ -352,13 +351,24 @@ impl<'a> Asked<'a> {
                 out.len()
             }
             List::Openers => bracket_matching::probe(&self.tree).len(),
-            List::Context => {
-                let Of::Cursor(offset) = of else { panic!("a context is at a cursor") };
-                matches!(cursor_context(&self.tree, self.source, offset), CursorContext::Unknown) as usize
-            }
+            List::Context => matches!(cursor_context(&self.tree, self.source, offset), CursorContext::Unknown) as usize,
             _ => build_scope(&self.tree, self.source).table_refs.len(),
         }
     }
+
+    pub fn hint_once(&self, message: &str) -> usize {
+        let mut all = [diagnostic(message)];
+        bracket_matching::enrich(&mut all, &self.tree);
+        all[0].related.len()
+    }
+
+    pub fn statement_once(&self, offset: u32) -> usize {
+        find_enclosing_statement(&self.tree, offset).is_some() as usize
+    }
+}
+
+fn diagnostic(message: &str) -> Diagnostic {
+    Diagnostic { message: message.into(), range: (0, 0), severity: Severity::Error, code: None, suggestion: None, related: Vec::new() }
 }
 
 /// What the Rust says of a frame that is not looked at first; a source that is no text it cannot be given.
