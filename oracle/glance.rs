@@ -1,8 +1,8 @@
 //! The program glance: its input lines, read anew from document 01's "Worked by hand", and what it must print for them by the Rust's answers.
 use crate::compare::{flipped, reduced, refusal, Tally, FLIPS};
 use crate::frames::{Frame, Rec, Seed, NONE};
+use crate::inputs::{inputs, offset, spoiled};
 use crate::rust::{in_ascii, without_lone_quotes, Asked, Said};
-use crate::store::{inputs, offset, spoiled};
 use std::fmt::Write;
 use std::io::Write as _;
 use std::process::{Command, Stdio};

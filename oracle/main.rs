@@ -9,6 +9,7 @@ mod compare;
 mod desk;
 mod frames;
 mod glance;
+mod inputs;
 mod listed;
 mod measure;
 mod rust;
@@ -41,6 +42,9 @@ fn sort_of(i: usize) -> Sort {
 fn compare(frames: usize, seed: u64, glance: Program) -> bool {
     let mut agreed = [0; SORTS.len()];
     let mut tally = Tally::default();
+    if !listed::listed(false) {
+        return false;
+    }
     if let Err(why) = glance.by_hand(&mut tally) {
         println!("{why}");
         return false;
@@ -65,6 +69,7 @@ fn compare(frames: usize, seed: u64, glance: Program) -> bool {
         }
         agreed[SORTS.iter().position(|&x| x == sort).expect("one")] += 1;
     }
+    println!("the listed differences are as listed");
     for (sort, n) in SORTS.iter().zip(agreed) {
         println!("{n} frames {sort:?} agreed");
     }
@@ -88,7 +93,7 @@ fn main() {
             FLIP.store(flip, Ordering::Relaxed);
             compare(number(1, 2000), number(2, 1) as u64, Program { words: args.get(5..).unwrap_or(&[]), every: number(4, 1) })
         }
-        Some("listed") => listed::listed(),
+        Some("listed") => listed::listed(true),
         Some("store") => match store::store(number(2, 2600), number(3, 1) as u64) {
             Ok(list) => std::fs::write(&args[1], list).is_ok(),
             Err(why) => { println!("{why}"); false }
