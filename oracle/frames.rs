@@ -69,13 +69,14 @@ pub enum Sort {
     OneAlias,
     HalfTyped,
     Words,
+    Tidy,
     Random,
     Deep,
     Large,
     Damaged,
 }
 
-pub const SORTS: [Sort; 8] = [Sort::Query, Sort::OneAlias, Sort::HalfTyped, Sort::Words, Sort::Random, Sort::Deep, Sort::Large, Sort::Damaged];
+pub const SORTS: [Sort; 9] = [Sort::Query, Sort::OneAlias, Sort::HalfTyped, Sort::Words, Sort::Tidy, Sort::Random, Sort::Deep, Sort::Large, Sort::Damaged];
 
 const MESSAGES: [&str; 9] = [
     "", "expected )", "expected ]", "expected }", "x expected ] or expected )", "expected", "unexpected )", "expected }, expected ]", "é expected )é",
@@ -90,6 +91,7 @@ pub fn frame(sort: Sort, seed: &mut Seed) -> Frame {
             let some: Vec<&str> = (0..40).map(|_| seed.of(semantic_tokens::words())).collect();
             words(&some, seed)
         }
+        Sort::Tidy => tidy(seed),
         Sort::Random => {
             let most = seed.of(&[3, 6, 12, 25, 60]);
             let deepest = seed.of(&[3, 6, 12]);
@@ -370,12 +372,40 @@ fn half_typed(mut f: Frame, seed: &mut Seed) -> Frame {
     f.source.truncate(f.recs[cut].start as usize);
     f.recs.truncate(cut);
     if f.recs.is_empty() { f.recs.push(Rec { kind: 1, depth: 0, start: NONE, end: 0 }) }
-    for i in (0..f.recs.len()).filter(|&i| !f.recs[i].is_token()).collect::<Vec<_>>() {
+    for i in 0..f.recs.len() {
         let below = f.recs[i + 1..].iter().take_while(|r| r.depth > f.recs[i].depth).filter(|r| r.is_token());
-        let (first, last) = below.fold((NONE, 0), |(a, _), r| (a.min(r.start), r.end));
-        (f.recs[i].start, f.recs[i].end) = (first, last);
+        let span = below.fold((NONE, 0), |(first, _), r| (first.min(r.start), r.end));
+        if !f.recs[i].is_token() { (f.recs[i].start, f.recs[i].end) = span }
     }
     f
+}
+
+/// The kinds that a rule for the cursor or for the scope speaks of, and the tokens.
+const RULED: [u32; 40] = [
+    0, 1, 2, 3, 3, 4, 4, 4, 5, 5, 6, 9, 13, 14, 15, 16, 16, 17, 17, 18, 19, 20, 21, 22, 23, 24, 25, 26, 27, 28, 30, 33, 33, 34, 35, 37, 39, 43, 44, 46,
+];
+const RULED_TOKENS: [(u32, &str); 20] = [
+    (131, "a"), (131, "b"), (131, "ON"), (131, "using"), (132, "`on`"), (128, "."), (128, "."), (128, ";"), (136, ","), (136, ","), (137, "("), (137, "("),
+    (140, ")"), (129, " "), (129, " "), (130, "/* . */"), (131, ""), (131, "é"), (131, "As"), (133, "1"),
+];
+
+/// Any kinds in each other, with spans as the parser gives them: so that paths go deep and each rule meets each other.
+fn tidy(seed: &mut Seed) -> Frame {
+    fn branch(q: &mut Query, left: usize) {
+        for _ in 0..1 + q.seed.below(4) {
+            if left > 0 && q.seed.one_in(3) {
+                let kind = if q.seed.one_in(4) { q.seed.below(56) as u32 } else { q.seed.of(&RULED) };
+                q.node(kind, |q| if !q.seed.one_in(10) { branch(q, left - 1) });
+            } else {
+                let (kind, text) = q.seed.of(&RULED_TOKENS);
+                q.token(kind, text);
+            }
+        }
+    }
+    let root = if seed.one_in(2) { 1 } else { seed.of(&RULED) };
+    let mut q = Query { f: empty(), depth: 0, deepest: 63, seed };
+    q.node(root, |q| { let left = 1 + q.seed.below(4); branch(q, left) });
+    q.f
 }
 
 /// Words of the Rust's list and near ones, each below a parent that judges it.

@@ -109,6 +109,55 @@ impl Inputs {
     }
 }
 
+/// A node of each kind in a statement at a dot, a word, a comma and behind its end, and below a join constraint; a clause of each kind with the
+/// cursor behind it in a statement of each kind; a node of each kind next below one whose rule looks there.
+fn rules(out: &mut Inputs) {
+    const SORT: &str = "rules for the cursor";
+    let tokens = [(131, 0, 1), (128, 1, 2), (129, 2, 3), (131, 3, 5), (129, 5, 6), (137, 6, 7), (131, 7, 8), (136, 8, 9), (131, 9, 10)];
+    for kind in 0..56 {
+        let mut recs = vec![(1, 0, 0, 12), (4, 1, 0, 12), (kind, 2, 0, 10)];
+        recs.extend(tokens.map(|(k, start, end)| (k, 3, start, end)));
+        for at in [1, 4, 9, 11] {
+            out.frame(SORT, &made("a. on (x,y  ", &recs), at);
+        }
+        out.frame(SORT, &made("a.", &[(28, 0, 0, 2), (kind, 1, 0, 2), (131, 2, 0, 1), (128, 2, 1, 2)]), 1);
+        for above in [1, 2, 5, 17, 37] {
+            out.frame(SORT, &made("a ", &[(above, 0, 0, 2), (kind, 1, 0, 2), (131, 2, 0, 1)]), 2);
+        }
+    }
+    for statement in 4..14 {
+        for clause in [3, 15, 16, 18, 19, 20, 21, 22, 23, 26] {
+            out.frame(SORT, &made("a  ", &[(0, 0, 0, 3), (statement, 1, 0, 3), (clause, 2, 0, 1), (131, 3, 0, 1)]), 2);
+        }
+    }
+}
+
+/// A call with calls and brackets in it, `f(a,g(b,c),(d,e),h`, at each offset; and with its name given in other ways.
+fn calls(out: &mut Inputs) {
+    let behind = [(137, 1, 1, 2), (131, 1, 2, 3), (136, 1, 3, 4), (44, 1, 4, 10), (131, 2, 4, 5), (137, 2, 5, 6), (131, 2, 6, 7), (136, 2, 7, 8), (131, 2, 8, 9), (140, 2, 9, 10),
+        (136, 1, 10, 11), (55, 1, 11, 16), (137, 2, 11, 12), (131, 2, 12, 13), (136, 2, 13, 14), (131, 2, 14, 15), (140, 2, 15, 16), (136, 1, 16, 17), (131, 1, 17, 18)];
+    let names: [&[(u32, u32, u32, u32)]; 5] =
+        [&[(131, 1, 0, 1)], &[(46, 1, 0, 1), (131, 2, 0, 1)], &[(46, 1, 0, 1), (132, 2, 0, 1)], &[(132, 1, 0, 1)], &[(46, 1, 0, 0), (131, 1, 0, 0), (131, 1, 0, 1)]];
+    for (i, name) in names.iter().enumerate() {
+        let recs = [&[(43, 0, 0, 18)], *name, &behind].concat();
+        for at in (0..19).step_by(if i == 0 { 1 } else { 6 }) {
+            out.frame("rules for the cursor", &made("f(a,g(b,c),(d,e),h", &recs), at);
+        }
+    }
+}
+
+/// A node of each kind above a FROM, between it and a table's name, behind the name with a word, and behind it with a name of its own.
+fn tables(out: &mut Inputs) {
+    const SORT: &str = "rules for the table reading";
+    for kind in 0..56 {
+        out.frame(SORT, &made("ab", &[(1, 0, 0, 2), (kind, 1, 0, 2), (16, 2, 0, 2), (33, 3, 0, 1), (131, 4, 0, 1), (35, 3, 1, 2), (131, 4, 1, 2)]), 1);
+        out.frame(SORT, &made("ab", &[(16, 0, 0, 2), (kind, 1, 0, 2), (33, 2, 0, 1), (131, 3, 0, 1), (35, 2, 1, 2), (132, 3, 1, 2)]), 1);
+        out.frame(SORT, &made("ab", &[(16, 0, 0, 2), (33, 1, 0, 1), (131, 2, 0, 1), (kind, 1, 1, 2), (131, 2, 1, 2)]), 1);
+        let named = [(16, 0, 0, 9), (33, 1, 0, 1), (131, 2, 0, 1), (kind, 1, 1, 4), (33, 2, 1, 2), (131, 3, 1, 2), (35, 2, 2, 4), (131, 3, 2, 4), (35, 1, 4, 9), (131, 2, 4, 6), (132, 2, 6, 9)];
+        out.frame(SORT, &made("abasas`c`", &named), 9);
+    }
+}
+
 /// The cases that document 01 names.
 fn named_cases(out: &mut Inputs) {
     out.boundary(&made("", &[(1, 0, NONE, 0)]), &[0, 1, NONE]);
@@ -270,10 +319,11 @@ fn from_seed(out: &mut Inputs, frames: usize, seed: &mut Seed) {
         }
         let size = match i % 20 { 0 => 1024, 1..=4 => 150, _ => 70 };
         match i % 100 {
-            0..=35 => { let (f, at) = small(Sort::Query, size, seed); out.frame("queries", &f, at) }
-            36..=42 => { let (f, at) = small(Sort::OneAlias, size.max(150), seed); out.frame("inner and outer alias of one name", &f, at) }
-            43..=52 => { let (f, at) = small(Sort::HalfTyped, size, seed); let at = if i % 2 == 0 { f.source.len() as u32 } else { at }; out.frame("half-typed queries", &f, at) }
-            53..=76 => { let (f, at) = small(Sort::Random, size, seed); out.frame("random trees", &f, at) }
+            0..=28 => { let (f, at) = small(Sort::Query, size, seed); out.frame("queries", &f, at) }
+            29..=34 => { let (f, at) = small(Sort::OneAlias, size.max(150), seed); out.frame("inner and outer alias of one name", &f, at) }
+            35..=42 => { let (f, at) = small(Sort::HalfTyped, size, seed); let at = if i % 2 == 0 { f.source.len() as u32 } else { at }; out.frame("half-typed queries", &f, at) }
+            43..=66 => { let (f, at) = small(Sort::Tidy, size, seed); out.frame("random trees, spans as the parser gives them", &f, at) }
+            67..=76 => { let (f, at) = small(Sort::Random, size, seed); out.frame("random trees, any spans", &f, at) }
             77 | 78 => { let (f, at) = small(Sort::Deep, 1024, seed); out.frame("depth 63", &f, at) }
             79 if i % 200 == 79 => { let (f, at) = large(seed); out.frame("1,024 records", &f, at) }
             79..=90 => { let (f, at) = small(Sort::Damaged, size, seed); out.frame("damaged copies", &f, at) }
@@ -302,6 +352,9 @@ pub fn inputs(frames: usize, seed: u64) -> Vec<(&'static str, Vec<u8>)> {
     worked(&mut inputs);
     kinds(&mut inputs);
     keywords(&mut inputs, &mut seed);
+    rules(&mut inputs);
+    calls(&mut inputs);
+    tables(&mut inputs);
     named_cases(&mut inputs);
     depths(&mut inputs);
     spans(&mut inputs);

@@ -32,7 +32,8 @@ fn sort_of(i: usize) -> Sort {
         32..=34 => Sort::OneAlias,
         35..=39 => Sort::HalfTyped,
         40..=42 => Sort::Words,
-        43..=74 => Sort::Random,
+        43..=56 => Sort::Tidy,
+        57..=74 => Sort::Random,
         75..=79 => Sort::Deep,
         99 if i % 1000 == 99 => Sort::Large,
         _ => Sort::Damaged,
@@ -94,7 +95,7 @@ fn main() {
             compare(number(1, 2000), number(2, 1) as u64, Program { words: args.get(5..).unwrap_or(&[]), every: number(4, 1) })
         }
         Some("listed") => listed::listed(true),
-        Some("store") => match store::store(number(2, 2600), number(3, 1) as u64) {
+        Some("store") => match store::store(number(2, 3600), number(3, 1) as u64) {
             Ok(list) => std::fs::write(&args[1], list).is_ok(),
             Err(why) => { println!("{why}"); false }
         },
