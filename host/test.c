@@ -1,4 +1,4 @@
-/* The boundary, from C: replies, guard bytes, rooms, limits. Says what differs and exits 1, or says how much was tried. */
+/* The boundary, from C: every function's replies, guard bytes, rooms, refusals and limits. Says what differs and exits 1, or says how much was tried. */
 #include "desk.h"
 #include <stdio.h>
 #include <string.h>
@@ -48,15 +48,17 @@ static uint64_t list(const char *q, uint32_t of, uint8_t *out, size_t len) {
 static const char *const lists[] = {"token_classes", "openers_left", "with_names", "table_aliases", "column_aliases", "table_refs",
     "with_names_at", "table_aliases_at", "column_aliases_at", "table_refs_at", "cursor_context"};
 
-enum { GUARD = 32, ROOM = 1024 };
-static uint8_t lent[GUARD + ROOM + GUARD], before[sizeof lent];
+enum { GUARD = 32, ROOM = DESK_REFERENCE_BYTES * DESK_RECORDS_MAX };
+static uint8_t lent[GUARD + ROOM + GUARD], before[sizeof lent], table_before[sizeof table], source_before[sizeof source];
 
-/* In a room of `len` bytes between guards: the reply, and every byte. */
+/* In a room of `len` bytes between guards: the reply, and every byte of the buffer and of what was lent to read. */
 static void in_room(const char *q, uint32_t of, size_t len, uint32_t refusal, uint32_t answer, const uint32_t *numbers, size_t count) {
     for (size_t i = 0; i < sizeof lent; i++) lent[i] = before[i] = (uint8_t)(i * 37 + 11);
     for (size_t i = 0; i < count && refusal == 0; i++) number(before + GUARD + 4 * i, numbers[i]);
+    memcpy(table_before, table, sizeof table);
+    memcpy(source_before, source, sizeof source);
     expect(q, list(q, of, lent + GUARD, len), refusal, answer);
-    if (memcmp(lent, before, sizeof lent)) {
+    if (memcmp(lent, before, sizeof lent) || memcmp(table, table_before, sizeof table) || memcmp(source, source_before, sizeof source)) {
         wrong++;
         printf("%s of %u in %zu bytes: other bytes\n", q, (unsigned)of, len);
     }
@@ -80,6 +82,18 @@ static void refused(uint32_t refusal, uint32_t detail) {
     expect("statement", desk_enclosing_statement(table, used, source, source_len, 0), refusal, detail);
     expect("root", desk_cursor_root(table, used, source, source_len, 0), refusal, detail);
     for (size_t i = 0; i < sizeof lists / sizeof *lists; i++) in_room(lists[i], 0, ROOM, refusal, detail, NULL, 0);
+}
+
+/* No question is refused, whatever its list has. */
+static void admitted(const char *what) {
+    expect(what, desk_check(table, used, source, source_len), 0, 0);
+    uint64_t replies[3] = {desk_bracket_hint(table, used, source, source_len, message, DESK_MESSAGE_MAX),
+        desk_enclosing_statement(table, used, source, source_len, 0), desk_cursor_root(table, used, source, source_len, 0)};
+    for (int i = 0; i < 3; i++) expect(what, replies[i], 0, DESK_ANSWER(replies[i]));
+    for (size_t i = 0; i < sizeof lists / sizeof *lists; i++) {
+        uint64_t reply = list(lists[i], 0, lent + GUARD, ROOM);
+        expect(lists[i], reply, 0, DESK_ANSWER(reply));
+    }
 }
 
 static void page(const char *text) {
@@ -150,6 +164,40 @@ static void spring(void) {
     in_rooms("table_refs_at", 36, outer, 1, DESK_REFERENCE_BYTES);
 }
 
+/* A list of each sort with an entry, of a root and at a cursor. */
+static void names(void) {
+    page("WITH w AS 1 SELECT (a AS `b` FROM d.t");
+    record(1, 0, 0, 37); record(4, 1, 0, 37); record(14, 2, 0, 11); record(131, 3, 0, 4); record(29, 3, 5, 11); record(131, 4, 5, 6);
+    record(131, 4, 7, 9); record(133, 4, 10, 11); record(15, 2, 12, 28); record(131, 3, 12, 18); record(137, 3, 19, 20); record(131, 3, 20, 21);
+    record(36, 3, 22, 28); record(131, 4, 22, 24); record(132, 4, 25, 28); record(16, 2, 29, 37); record(131, 3, 29, 33); record(33, 3, 34, 37);
+    record(131, 4, 34, 35); record(128, 4, 35, 36); record(131, 4, 36, 37);
+    static const uint32_t with[] = {5, 6, 5, 6, 5, 11}, column[] = {25, 28, 26, 27, 22, 28}, reference[] = {17, 34, 35, 36, 37, DESK_NONE, DESK_NONE};
+    static const uint32_t opener[] = {10};
+    in_rooms("with_names", 0, with, 1, DESK_BINDING_BYTES);
+    in_rooms("with_names_at", 20, with, 1, DESK_BINDING_BYTES);
+    in_rooms("column_aliases", 1, column, 1, DESK_BINDING_BYTES);
+    in_rooms("column_aliases_at", 20, column, 1, DESK_BINDING_BYTES);
+    in_rooms("table_refs", 15, reference, 1, DESK_REFERENCE_BYTES);
+    in_rooms("table_refs_at", 20, reference, 1, DESK_REFERENCE_BYTES);
+    in_rooms("openers_left", 0, opener, 1, DESK_OPENER_BYTES);
+}
+
+/* As many entries as a table can have: each record but the first is a classed token, then an opener. */
+static void longest_lists(void) {
+    static uint32_t classes[3 * DESK_RECORDS_MAX], openers[DESK_RECORDS_MAX];
+    used = 0;
+    source_len = DESK_SOURCE_MAX;
+    record(1, 0, 0, DESK_SOURCE_MAX);
+    for (uint32_t i = 1; i < DESK_RECORDS_MAX; i++) {
+        record(133, 1, 16 * i, 16 * (i + 1));
+        classes[3 * i - 3] = 16 * i; classes[3 * i - 2] = 16 * (i + 1); classes[3 * i - 1] = DESK_NUMBER;
+    }
+    in_rooms("token_classes", 0, classes, DESK_RECORDS_MAX - 1, DESK_CLASS_BYTES);
+    for (uint32_t i = 1; i < DESK_RECORDS_MAX; i++) number(table + 16 * i, 137), openers[i - 1] = i;
+    in_rooms("openers_left", 0, openers, DESK_RECORDS_MAX - 1, DESK_OPENER_BYTES);
+    expect("last opener", desk_bracket_hint(table, used, source, source_len, (const uint8_t *)"expected )", 10), 0, DESK_RECORDS_MAX - 1);
+}
+
 static void refusals(void) {
     used = 0; source_len = 0;
     refused(1, 0);
@@ -159,21 +207,22 @@ static void refusals(void) {
     for (uint32_t i = 0; i <= DESK_RECORDS_MAX; i++) record(0, i > 0, 0, 0);
     refused(1, 0);
     used -= 16;
-    expect("most records", desk_check(table, used, source, source_len), 0, 0);
+    admitted("most records");
     worked(); source_len = DESK_SOURCE_MAX + 1; refused(2, 0);
-    source_len = DESK_SOURCE_MAX; expect("longest source", desk_check(table, used, source, source_len), 0, 0);
-    expect("longest message", desk_bracket_hint(table, used, source, source_len, message, DESK_MESSAGE_MAX), 0, DESK_NONE);
+    source_len = DESK_SOURCE_MAX; admitted("longest source, longest message");
     expect("long message", desk_bracket_hint(table, used, source, source_len, message, DESK_MESSAGE_MAX + 1), 2, 0);
-    static const uint32_t unlisted[] = {56, 127, 158, 255, 256, 257, 65536 + 4, DESK_NONE};
+    static const uint32_t unlisted[] = {56, 127, 158, 255, 256, 257, 256 + 131, 65536 + 4, DESK_NONE};
     for (size_t i = 0; i < sizeof unlisted / sizeof *unlisted; i++) { worked(); number(table + 32, unlisted[i]); refused(3, 2); }
     worked(); number(table, 131); refused(4, 0);
     worked(); number(table + 16 + 4, 2); refused(4, 1);
     worked(); number(table + 5 * 16 + 4, 4); refused(4, 5);
+    worked(); number(table + 2 * 16 + 4, 256 + 2); refused(4, 2);
     used = 0; source_len = 0;
     for (uint32_t i = 0; i <= DESK_DEPTH_MAX; i++) record(0, i, 0, 0);
-    expect("deepest", desk_check(table, used, source, source_len), 0, 0);
+    admitted("deepest");
     record(0, DESK_DEPTH_MAX + 1, 0, 0); refused(5, DESK_DEPTH_MAX + 1);
     worked(); source_len = 19; refused(6, 16);
+    worked(); number(table + 16 * 16 + 12, DESK_NONE); refused(6, 16);
     worked(); number(table + 4 * 16 + 8, 5); refused(6, 4);
     worked(); number(table + 3 * 16 + 8, 7); refused(6, 3);
 }
@@ -181,6 +230,8 @@ static void refusals(void) {
 int main(void) {
     answers();
     spring();
+    names();
+    longest_lists();
     refusals();
     if (!wrong) printf("%u replies as they must be\n", tried);
     return wrong != 0;

@@ -1,7 +1,7 @@
 //! Both sides on one frame: every reply and every byte of every buffer.
 use crate::desk::{self, List, Of, SCOPE};
 use crate::frames::{Frame, NONE};
-use crate::rust::{lone_quotes, Asked, Said};
+use crate::rust::{in_ascii, without_lone_quotes, Asked, Said};
 use std::sync::atomic::{AtomicUsize, Ordering};
 
 /// What was seen on the way.
@@ -9,18 +9,21 @@ use std::sync::atomic::{AtomicUsize, Ordering};
 pub struct Tally {
     pub rust_asked: usize,
     pub refused: [usize; 9],
+    pub no_text: usize,
     pub stopped: usize,
     pub lists: usize,
     pub entries: usize,
     pub contexts: [usize; 13],
+    pub glanced: usize,
 }
 
 /// Which of our answers is falsified, to see that it is found: 0 none, 1 the check, 2 the hint, 3 the statement,
-/// 4 the cursor's root, then the count, bytes and guard of each list of a table or root, the context, and each list at the cursor.
+/// 4 the cursor's root, then the count, bytes and guard of each list of a table or root, the context, and each list at the cursor; last,
+/// what glance prints.
 pub static FLIP: AtomicUsize = AtomicUsize::new(0);
-pub const FLIPS: usize = 4 + 3 * 11;
+pub const FLIPS: usize = 4 + 3 * 11 + 1;
 
-fn flipped(n: usize) -> bool {
+pub fn flipped(n: usize) -> bool {
     FLIP.load(Ordering::Relaxed) == n
 }
 
@@ -131,12 +134,12 @@ fn root_at(f: &Frame, statement: u32, offset: u32) -> u32 {
 }
 
 /// The four lists of a root, in the order of `SCOPE`; a stop of the Rust is counted.
-fn scope(rust: &Asked, f: &Frame, root: usize, tally: &mut Tally) -> Result<[Vec<Vec<u32>>; 4], String> {
+fn scope(rust: &Asked, root: usize, tally: &mut Tally) -> Result<[Vec<Vec<u32>>; 4], String> {
     match rust.scope(root) {
         Said::Answer(lists) => lists,
         Said::Stopped => {
             tally.stopped += 1;
-            unstopped(f, root)
+            unstopped(rust.frame, root)
         }
     }
 }
@@ -158,7 +161,7 @@ fn cursor(rust: &Asked, f: &Frame, table: &[u8], offset: u32, tally: &mut Tally)
     let context = rust.context(offset)?;
     tally.contexts[context[0] as usize] += 1;
     in_rooms(List::Context, f, table, Of::Cursor(offset), &[context.to_vec()], tally)?;
-    for (q, entries) in SCOPE.into_iter().zip(scope(rust, f, root as usize, tally)?) {
+    for (q, entries) in SCOPE.into_iter().zip(scope(rust, root as usize, tally)?) {
         in_rooms(q, f, table, Of::Cursor(offset), &entries, tally)?;
     }
     Ok(())
@@ -200,7 +203,14 @@ pub fn difference(f: &Frame, tally: &mut Tally) -> Result<(), String> {
             ask(q, f, &table, Of::Root(root as u32), 64, Some((8, 0)), &[])?;
         }
     }
-    let Some(rust) = Asked::new(f) else { return Ok(()) };
+    let plain = in_ascii(f);
+    let rust = match Asked::new(f) {
+        Some(asked) => asked,
+        None => {
+            tally.no_text += 1;
+            Asked::new(&plain).expect("ASCII")
+        }
+    };
     tally.rust_asked += 1;
     if f.message.len() <= 4096 {
         let expected = rust.hint(std::str::from_utf8(&f.message).expect("ASCII"))?;
@@ -211,7 +221,7 @@ pub fn difference(f: &Frame, tally: &mut Tally) -> Result<(), String> {
     in_rooms(List::Classes, f, &table, Of::Root(0), &rust.classes(), tally)?;
     in_rooms(List::Openers, f, &table, Of::Root(0), &rust.openers()?, tally)?;
     for root in roots(f) {
-        for (q, entries) in SCOPE.into_iter().zip(scope(&rust, f, root, tally)?) {
+        for (q, entries) in SCOPE.into_iter().zip(scope(&rust, root, tally)?) {
             in_rooms(q, f, &table, Of::Root(root as u32), &entries, tally)?;
         }
     }
@@ -223,10 +233,7 @@ pub fn difference(f: &Frame, tally: &mut Tally) -> Result<(), String> {
 
 /// A lone quote mark stops the Rust, and ours keeps it: what the Rust says with a letter in its place.
 fn unstopped(f: &Frame, root: usize) -> Result<[Vec<Vec<u32>>; 4], String> {
-    let mut other = f.clone();
-    for i in lone_quotes(f) {
-        other.source[f.recs[i].start as usize] = b'x';
-    }
+    let other = without_lone_quotes(f);
     let asked = Asked::new(&other).expect("as the frame itself");
     match asked.scope(root) {
         Said::Answer(lists) if other.source != f.source => lists,
@@ -235,8 +242,7 @@ fn unstopped(f: &Frame, root: usize) -> Result<[Vec<Vec<u32>>; 4], String> {
 }
 
 /// The frame without records that the difference does not need.
-pub fn reduced(mut f: Frame) -> Frame {
-    let differs = |f: &Frame| difference(f, &mut Tally::default()).is_err();
+pub fn reduced(mut f: Frame, differs: impl Fn(&Frame) -> bool) -> Frame {
     let mut i = f.recs.len();
     while i > 0 {
         i = (i - 1).min(f.recs.len().saturating_sub(1));
@@ -249,7 +255,7 @@ pub fn reduced(mut f: Frame) -> Frame {
         for below in &mut lifted.recs[i..end - 1] {
             below.depth = below.depth.wrapping_sub(1);
         }
-        if let Some(smaller) = [without, lifted].into_iter().find(differs) {
+        if let Some(smaller) = [without, lifted].into_iter().find(&differs) {
             f = smaller;
             i = f.recs.len();
         }

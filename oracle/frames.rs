@@ -1,4 +1,6 @@
 //! Frames: a source, a table and a message, from a seed.
+use crate::text::lsp::semantic_tokens;
+
 pub const NONE: u32 = u32::MAX;
 pub const BARE_WORD: u32 = 131;
 pub const QUOTED: u32 = 132;
@@ -56,7 +58,7 @@ impl Seed {
         self.below(n) == 0
     }
 
-    fn of<T: Copy>(&mut self, all: &[T]) -> T {
+    pub fn of<T: Copy>(&mut self, all: &[T]) -> T {
         all[self.below(all.len())]
     }
 }
@@ -64,13 +66,17 @@ impl Seed {
 #[derive(Clone, Copy, PartialEq, Debug)]
 pub enum Sort {
     Query,
+    OneAlias,
+    HalfTyped,
+    Words,
+    Tidy,
     Random,
     Deep,
     Large,
     Damaged,
 }
 
-pub const SORTS: [Sort; 5] = [Sort::Query, Sort::Random, Sort::Deep, Sort::Large, Sort::Damaged];
+pub const SORTS: [Sort; 9] = [Sort::Query, Sort::OneAlias, Sort::HalfTyped, Sort::Words, Sort::Tidy, Sort::Random, Sort::Deep, Sort::Large, Sort::Damaged];
 
 const MESSAGES: [&str; 9] = [
     "", "expected )", "expected ]", "expected }", "x expected ] or expected )", "expected", "unexpected )", "expected }, expected ]", "é expected )é",
@@ -79,17 +85,24 @@ const MESSAGES: [&str; 9] = [
 pub fn frame(sort: Sort, seed: &mut Seed) -> Frame {
     let mut f = match sort {
         Sort::Query => query(seed, 1),
+        Sort::OneAlias => one_alias(seed),
+        Sort::HalfTyped => half_typed(query(seed, 1), seed),
+        Sort::Words => {
+            let some: Vec<&str> = (0..40).map(|_| seed.of(semantic_tokens::words())).collect();
+            words(&some, seed)
+        }
+        Sort::Tidy => tidy(seed),
         Sort::Random => {
             let most = seed.of(&[3, 6, 12, 25, 60]);
             let deepest = seed.of(&[3, 6, 12]);
             random(seed, most, deepest)
         }
-        Sort::Deep => if seed.one_in(2) { random(seed, 200, 63) } else { page(seed, 260, true) },
+        Sort::Deep => if seed.one_in(2) { random(seed, 200, 63) } else { page(seed, 260, 63) },
         Sort::Large => {
             let n = seed.of(&[1024, 4096]);
             match seed.below(4) {
                 0 | 1 => random(seed, n, 63),
-                k => page(seed, n, k == 3),
+                k => page(seed, n, [62, 63][k - 2]),
             }
         }
         Sort::Damaged => {
@@ -110,6 +123,8 @@ pub fn frame(sort: Sort, seed: &mut Seed) -> Frame {
 struct Query<'a> {
     f: Frame,
     depth: u32,
+    /// No record stands deeper: what a node there would hold stands in its place.
+    deepest: u32,
     seed: &'a mut Seed,
 }
 
@@ -148,6 +163,9 @@ impl Query<'_> {
 
     /// A node over what `inside` makes: from its first token to its last; empty where it has none.
     fn node(&mut self, kind: u32, inside: impl FnOnce(&mut Self)) {
+        if self.depth >= self.deepest {
+            return inside(self);
+        }
         let at = self.f.recs.len();
         self.f.recs.push(Rec { kind, depth: self.depth, start: NONE, end: 0 });
         self.depth += 1;
@@ -283,6 +301,24 @@ impl Query<'_> {
         self.node(55, |q| if q.depth < 63 { q.well() } else { q.name() })
     }
 
+    /// A query whose inner queries give the same alias to tables of their own, with the alias typed in each.
+    fn one_alias(&mut self, alias: &str, left: usize) {
+        let inner = |q: &mut Self| q.node(30, |q| { q.token(137, "("); q.one_alias(alias, left - 1); q.token(140, ")") });
+        self.node(4, |q| {
+            q.node(15, |q| {
+                q.word("SELECT"); q.space();
+                q.node(47, |q| { q.token(BARE_WORD, alias); q.token(128, "."); if q.seed.one_in(2) { q.name() } });
+                if left > 0 { q.space(); q.token(136, ","); q.space(); inner(q) }
+            });
+            q.space();
+            q.node(16, |q| {
+                q.word("FROM"); q.space(); q.node(33, |q| q.name()); q.space();
+                q.node(35, |q| { if q.seed.one_in(3) { q.word("AS"); q.space() } q.token(BARE_WORD, alias) })
+            });
+            if left > 0 && q.seed.one_in(2) { q.space(); q.node(19, |q| { q.word("WHERE"); q.space(); inner(q) }) }
+        })
+    }
+
     fn other_statement(&mut self) {
         match self.seed.below(3) {
             0 => self.node(5, |q| { q.word("INSERT"); q.space(); q.word("INTO"); q.space(); q.table(0); q.space(); q.node(27, |q| { q.word("FORMAT"); q.space(); q.token(BARE_WORD, "CSV") }) }),
@@ -305,12 +341,12 @@ impl Query<'_> {
     }
 }
 
-fn empty() -> Frame {
+pub fn empty() -> Frame {
     Frame { source: Vec::new(), recs: Vec::new(), message: Vec::new(), rest: 0 }
 }
 
 pub fn query(seed: &mut Seed, statements: usize) -> Frame {
-    let mut q = Query { f: empty(), depth: 0, seed };
+    let mut q = Query { f: empty(), depth: 0, deepest: 63, seed };
     q.node(1, |q| {
         for _ in 0..statements {
             if q.seed.one_in(6) { q.other_statement() } else { let left = q.seed.below(4); q.select(left) }
@@ -321,14 +357,85 @@ pub fn query(seed: &mut Seed, statements: usize) -> Frame {
     q.f
 }
 
-/// A page of statements of exactly n records: a statement that does not fit is left out, and after some of those spaces fill up.
-pub fn page(seed: &mut Seed, n: usize, deep: bool) -> Frame {
-    let mut q = Query { f: empty(), depth: 0, seed };
+fn one_alias(seed: &mut Seed) -> Frame {
+    let alias = seed.of(&WORDS);
+    let left = 1 + seed.below(2);
+    let mut q = Query { f: empty(), depth: 0, deepest: 63, seed };
+    q.node(1, |q| q.one_alias(alias, left));
+    q.f
+}
+
+/// Only what stands before some token, as a page is while it is typed: a node that has no token yet is empty.
+fn half_typed(mut f: Frame, seed: &mut Seed) -> Frame {
+    let tokens: Vec<usize> = (0..f.recs.len()).filter(|&i| f.recs[i].is_token()).collect();
+    let cut = seed.of(&tokens);
+    f.source.truncate(f.recs[cut].start as usize);
+    f.recs.truncate(cut);
+    if f.recs.is_empty() { f.recs.push(Rec { kind: 1, depth: 0, start: NONE, end: 0 }) }
+    for i in 0..f.recs.len() {
+        let below = f.recs[i + 1..].iter().take_while(|r| r.depth > f.recs[i].depth).filter(|r| r.is_token());
+        let span = below.fold((NONE, 0), |(first, _), r| (first.min(r.start), r.end));
+        if !f.recs[i].is_token() { (f.recs[i].start, f.recs[i].end) = span }
+    }
+    f
+}
+
+/// The kinds that a rule for the cursor or for the scope speaks of, and the tokens.
+const RULED: [u32; 40] = [
+    0, 1, 2, 3, 3, 4, 4, 4, 5, 5, 6, 9, 13, 14, 15, 16, 16, 17, 17, 18, 19, 20, 21, 22, 23, 24, 25, 26, 27, 28, 30, 33, 33, 34, 35, 37, 39, 43, 44, 46,
+];
+const RULED_TOKENS: [(u32, &str); 20] = [
+    (131, "a"), (131, "b"), (131, "ON"), (131, "using"), (132, "`on`"), (128, "."), (128, "."), (128, ";"), (136, ","), (136, ","), (137, "("), (137, "("),
+    (140, ")"), (129, " "), (129, " "), (130, "/* . */"), (131, ""), (131, "é"), (131, "As"), (133, "1"),
+];
+
+/// Any kinds in each other, with spans as the parser gives them: so that paths go deep and each rule meets each other.
+fn tidy(seed: &mut Seed) -> Frame {
+    fn branch(q: &mut Query, left: usize) {
+        for _ in 0..1 + q.seed.below(4) {
+            if left > 0 && q.seed.one_in(3) {
+                let kind = if q.seed.one_in(4) { q.seed.below(56) as u32 } else { q.seed.of(&RULED) };
+                q.node(kind, |q| if !q.seed.one_in(10) { branch(q, left - 1) });
+            } else {
+                let (kind, text) = q.seed.of(&RULED_TOKENS);
+                q.token(kind, text);
+            }
+        }
+    }
+    let root = if seed.one_in(2) { 1 } else { seed.of(&RULED) };
+    let mut q = Query { f: empty(), depth: 0, deepest: 63, seed };
+    q.node(root, |q| { let left = 1 + q.seed.below(4); branch(q, left) });
+    q.f
+}
+
+/// Words of the Rust's list and near ones, each below a parent that judges it.
+pub fn words(all: &[&str], seed: &mut Seed) -> Frame {
+    let mut q = Query { f: empty(), depth: 0, deepest: 63, seed };
+    q.node(1, |q| for word in all {
+        let mut text = word.to_string();
+        match q.seed.below(6) {
+            0 => text.push(q.seed.of(&['X', 'S', '1', 'ı'])),
+            1 => { text.pop(); }
+            2 => { let at = q.seed.below(text.len()); text.replace_range(at..at + 1, q.seed.of(&["Q", "_", "E", "ſ"])) }
+            _ => (),
+        }
+        if q.seed.one_in(2) { text = text.to_ascii_lowercase() }
+        let kind = if q.seed.one_in(2) { q.seed.of(&[0, 55]) } else { q.seed.below(56) as u32 };
+        q.node(kind, |q| q.token(BARE_WORD, &text))
+    });
+    q.f
+}
+
+/// A page of statements of exactly n records, none deeper than said; at 63 queries over queries. A statement that does not fit is left out, and
+/// after some of those spaces fill up.
+pub fn page(seed: &mut Seed, n: usize, deepest: u32) -> Frame {
+    let mut q = Query { f: empty(), depth: 0, deepest, seed };
     q.node(1, |q| {
         let mut misfits = 0;
+        if deepest == 63 && n == 64 { q.well() } // the one way to be so deep with so few
         while misfits < 60 {
             let (records, bytes) = (q.f.recs.len(), q.f.source.len());
-            if deep && misfits < 20 { q.nested() } else { let left = q.seed.below(4 - misfits / 20); q.select(left) }
+            if deepest == 63 && misfits < 20 { q.nested() } else { let left = q.seed.below(4 - misfits / 20); q.select(left) }
             q.token(128, ";");
             if q.f.recs.len() > n || q.f.source.len() > 60000 {
                 q.f.recs.truncate(records);
@@ -374,6 +481,10 @@ pub fn random(seed: &mut Seed, most: usize, deepest: u32) -> Frame {
     }
     f.source.extend(seed.of(&["", "", " ", "é"]).as_bytes());
     let len = f.source.len();
+    // at times bytes that are no text
+    if seed.one_in(10) && len > 0 {
+        for _ in 0..1 + seed.below(4) { let at = seed.below(len); f.source[at] = 128 + seed.below(128) as u8 }
+    }
     for r in f.recs.iter_mut().filter(|r| r.kind < 128) {
         (r.start, r.end) = match seed.below(6) {
             0 => (NONE, 0),

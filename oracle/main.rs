@@ -1,10 +1,19 @@
 //! The comparison with the Rust.
-//!   oracle compare FRAMES SEED [FLIP]                       compares; exit 1 at a difference. FLIP falsifies one of our answers (1 to 37)
-//!   oracle measure QUESTION SIDE RECORDS DEPTH REPEATS      asks one side REPEATS times, for an instruction counter around it
+//!   oracle compare FRAMES SEED FLIP EVERY GLANCE..          compares; exit 1 at a difference. FLIP falsifies one of our answers (1 to 38; 0 none).
+//!                                                           GLANCE.. is the program with its words, asked for one frame in EVERY
+//!   oracle listed                                           asks both sides the frames of the listed differences
+//!   oracle store FILE FRAMES SEED                           writes the stored list
+//!   oracle glance                                           prints what the program glance must print for its input
+//!   oracle measure                                          asks each side each question between marks, for an instruction counter around it
 mod compare;
 mod desk;
 mod frames;
+mod glance;
+mod inputs;
+mod listed;
+mod measure;
 mod rust;
+mod store;
 mod text {
     include!(env!("ORACLE_TEXT"));
 }
@@ -12,28 +21,41 @@ pub use text::*;
 
 use compare::{difference, reduced, Tally, FLIP, FLIPS};
 use frames::{frame, Seed, Sort, SORTS};
+use glance::Program;
+use std::io::{Read, Write};
 use std::sync::atomic::Ordering;
 
 /// How many frames of each sort in a round of 100: a large one costs as much as hundreds of small ones.
 fn sort_of(i: usize) -> Sort {
     match i % 100 {
-        0..=39 => Sort::Query,
-        40..=74 => Sort::Random,
+        0..=31 => Sort::Query,
+        32..=34 => Sort::OneAlias,
+        35..=39 => Sort::HalfTyped,
+        40..=42 => Sort::Words,
+        43..=56 => Sort::Tidy,
+        57..=74 => Sort::Random,
         75..=79 => Sort::Deep,
         99 if i % 1000 == 99 => Sort::Large,
         _ => Sort::Damaged,
     }
 }
 
-fn compare(frames: usize, seed: u64) -> bool {
-    let mut agreed = [0; 5];
+fn compare(frames: usize, seed: u64, glance: Program) -> bool {
+    let mut agreed = [0; SORTS.len()];
     let mut tally = Tally::default();
+    if !listed::listed(false) {
+        return false;
+    }
+    if let Err(why) = glance.by_hand(&mut tally) {
+        println!("{why}");
+        return false;
+    }
     for i in 0..frames {
         let sort = sort_of(i);
         let mut s = Seed((seed << 32 | i as u64).wrapping_mul(0x9E3779B97F4A7C15) | 1);
         let f = frame(sort, &mut s);
         if let Err(first) = difference(&f, &mut tally) {
-            let small = reduced(f);
+            let small = reduced(f, |f| difference(f, &mut Tally::default()).is_err());
             println!("frame {i} of seed {seed} ({sort:?}) differs: {first}");
             println!("the smallest: {}", difference(&small, &mut Tally::default()).expect_err("still"));
             println!("source {:?}\nmessage {:?}, {} bytes behind the records", String::from_utf8_lossy(&small.source), String::from_utf8_lossy(&small.message), small.rest);
@@ -42,70 +64,22 @@ fn compare(frames: usize, seed: u64) -> bool {
             }
             return false;
         }
+        if let Err(why) = glance.frame(i, &f, &mut s, &mut tally) {
+            println!("frame {i} of seed {seed} ({sort:?}) differs: {why}");
+            return false;
+        }
         agreed[SORTS.iter().position(|&x| x == sort).expect("one")] += 1;
     }
+    println!("the listed differences are as listed");
     for (sort, n) in SORTS.iter().zip(agreed) {
         println!("{n} frames {sort:?} agreed");
     }
     println!("{} of them asked the Rust; {} lists with {} entries, each in five rooms", tally.rust_asked, tally.lists, tally.entries);
-    println!("the Rust stopped at a lone quote mark {} times", tally.stopped);
+    println!("the Rust stopped at a lone quote mark {} times; {} frames are no text, and were asked with a mark for each byte over 127", tally.stopped, tally.no_text);
     println!("refusals by number: {:?}", &tally.refused[1..]);
     println!("contexts by number: {:?}", tally.contexts);
+    if glance.asks(0) { println!("{} inputs agreed through glance, those made by hand and one for each {} of these frames", tally.glanced, glance.every) }
     true
-}
-
-/// A page for measuring: statements as people write them, or queries over queries to depth 63. It has few spaces that only fill it up, and the
-/// statements as people write them have a table for every hundred records.
-fn page(records: usize, deep: bool) -> frames::Frame {
-    let fits = |f: &frames::Frame| {
-        let filling = f.recs.iter().rev().take_while(|r| r.kind == 129).count();
-        let tables = f.recs.iter().filter(|r| r.kind == frames::TABLE_IDENTIFIER).count();
-        filling <= records / 8 && (deep || tables >= records / 100)
-    };
-    (1..200).map(|seed| frames::page(&mut Seed(seed), records, deep)).find(fits).expect("one")
-}
-
-fn measure(question: &str, side: &str, records: usize, depth: u32, repeats: usize) -> usize {
-    let mut f = page(records, depth == 63);
-    for i in rust::lone_quotes(&f) {
-        f.source[f.recs[i].start as usize] = b'x';
-    }
-    if question == "shape" {
-        println!("{} records, {} tokens, deepest {}", f.recs.len(), f.recs.iter().filter(|r| r.is_token()).count(), f.recs.iter().map(|r| r.depth).max().unwrap_or(0));
-        return 0;
-    }
-    let table = f.table();
-    let asked = rust::Asked::new(&f).expect("UTF-8");
-    let mut out = vec![0; 56 * records];
-    let lists: &[desk::List] = match question {
-        "classes" => &[desk::List::Classes],
-        "openers" => &[desk::List::Openers],
-        "scope" => &desk::SCOPE,
-        "with" => &desk::SCOPE[..1],
-        "aliases" => &desk::SCOPE[1..2],
-        "columns" => &desk::SCOPE[2..3],
-        "refs" => &desk::SCOPE[3..],
-        "context-top" | "context-middle" | "context-end" => &[desk::List::Context],
-        "check" => &[],
-        _ => panic!("classes, openers, scope, with, aliases, columns, refs, context-top, context-middle, context-end, check or shape"),
-    };
-    let end = f.source.len() as u32;
-    let of = match question {
-        "context-top" => desk::Of::Cursor(0),
-        "context-middle" => desk::Of::Cursor(end / 2),
-        "context-end" => desk::Of::Cursor(end),
-        _ => desk::Of::Root(0),
-    };
-    let mut sum = 0;
-    for _ in 0..repeats {
-        match side {
-            "rust" => sum += asked.measure(lists[0], of),
-            "ours" if lists.is_empty() => sum += desk::check(std::hint::black_box(&table), &f.source).1 as usize,
-            "ours" => for &q in lists { sum += desk::list(q, std::hint::black_box(&table), &f.source, of, &mut out).1 as usize },
-            _ => panic!("ours or rust"),
-        }
-    }
-    sum
 }
 
 fn main() {
@@ -118,10 +92,23 @@ fn main() {
             let flip = number(3, 0);
             assert!(flip <= FLIPS, "no such answer");
             FLIP.store(flip, Ordering::Relaxed);
-            compare(number(1, 2000), number(2, 1) as u64)
+            compare(number(1, 2000), number(2, 1) as u64, Program { words: args.get(5..).unwrap_or(&[]), every: number(4, 1) })
+        }
+        Some("listed") => listed::listed(true),
+        Some("store") => match store::store(number(2, 3600), number(3, 1) as u64) {
+            Ok(list) => std::fs::write(&args[1], list).is_ok(),
+            Err(why) => { println!("{why}"); false }
+        },
+        Some("glance") => {
+            let mut input = Vec::new();
+            let read = std::io::stdin().read_to_end(&mut input).is_ok();
+            match glance::printed(&input) {
+                Ok(glance::Printed::Text(text)) => read && std::io::stdout().write_all(&text).is_ok(),
+                _ => false,
+            }
         }
         Some("measure") => {
-            println!("{}", measure(&args[1], &args[2], number(3, 64), number(4, 10) as u32, number(5, 1)));
+            measure::measure();
             true
         }
         _ => false,

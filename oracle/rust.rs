@@ -1,6 +1,6 @@
 //! The Rust's answers, as our questions give them. A name comes back as a String; where it stands is found by a second run of the same
 //! function over a twin, whose token texts tell the records apart, and the first run's text is compared with the bytes at that place.
-use crate::desk::{List, Of};
+use crate::desk::List;
 use crate::frames::{Frame, Rec, BARE_WORD, NONE, QUOTED, TABLE_IDENTIFIER};
 use crate::text::analysis::cursor_context::{cursor_context, CursorContext};
 use crate::text::analysis::scope::{build_scope, find_enclosing_statement, NameBinding, QueryScope};
@@ -91,7 +91,7 @@ pub fn node_at(tree: &SyntaxTree, record: usize) -> &SyntaxTree {
 
 /// A frame as the Rust gets it, with its twins.
 pub struct Asked<'a> {
-    frame: &'a Frame,
+    pub frame: &'a Frame,
     source: &'a str,
     tree: SyntaxTree,
     twin: Twin,
@@ -228,8 +228,7 @@ impl<'a> Asked<'a> {
     /// The opener's record, or 4294967295.
     pub fn hint(&self, message: &str) -> Result<u32, String> {
         let ask = |tree: &SyntaxTree| {
-            let d = Diagnostic { message: message.into(), range: (0, 0), severity: Severity::Error, code: None, suggestion: None, related: Vec::new() };
-            let mut all = [d];
+            let mut all = [diagnostic(message)];
             bracket_matching::enrich(&mut all, tree);
             all[0].related.iter().map(|r| r.range).collect::<Vec<_>>()
         };
@@ -344,7 +343,7 @@ impl<'a> Asked<'a> {
     }
 
     /// For measuring: the Rust's own functions on the tree, with nothing around them.
-    pub fn measure(&self, q: List, of: Of) -> usize {
+    pub fn measure(&self, q: List, offset: u32) -> usize {
         match q {
             List::Classes => {
                 let mut out = Vec::new();
@@ -352,16 +351,65 @@ impl<'a> Asked<'a> {
                 out.len()
             }
             List::Openers => bracket_matching::probe(&self.tree).len(),
-            List::Context => {
-                let Of::Cursor(offset) = of else { panic!("a context is at a cursor") };
-                matches!(cursor_context(&self.tree, self.source, offset), CursorContext::Unknown) as usize
-            }
+            List::Context => matches!(cursor_context(&self.tree, self.source, offset), CursorContext::Unknown) as usize,
             _ => build_scope(&self.tree, self.source).table_refs.len(),
         }
     }
+
+    pub fn hint_once(&self, message: &str) -> usize {
+        let mut all = [diagnostic(message)];
+        bracket_matching::enrich(&mut all, &self.tree);
+        all[0].related.len()
+    }
+
+    pub fn statement_once(&self, offset: u32) -> usize {
+        find_enclosing_statement(&self.tree, offset).is_some() as usize
+    }
 }
 
-/// The kinds of token whose name is unquoted where it stands below an item or an alias.
-pub fn lone_quotes(frame: &Frame) -> Vec<usize> {
-    (0..frame.recs.len()).filter(|&i| frame.recs[i].kind == QUOTED && frame.text(i).len() == 1 && quote(frame.text(i)[0])).collect()
+fn diagnostic(message: &str) -> Diagnostic {
+    Diagnostic { message: message.into(), range: (0, 0), severity: Severity::Error, code: None, suggestion: None, related: Vec::new() }
+}
+
+/// What the Rust says of a frame that is not looked at first; a source that is no text it cannot be given.
+#[derive(Debug)]
+pub enum Text {
+    Said(String),
+    Stopped(String),
+    NoText,
+}
+
+pub fn asked_of_text(frame: &Frame, q: List) -> Text {
+    let Ok(source) = std::str::from_utf8(&frame.source) else { return Text::NoText };
+    let tree = tree_of(&frame.recs);
+    ASKING.store(true, Ordering::Relaxed);
+    let run = catch_unwind(AssertUnwindSafe(|| match q {
+        List::Classes => {
+            let mut out = Vec::new();
+            semantic_tokens::probe(&tree, source, &mut out);
+            format!("{out:?}")
+        }
+        List::Context => format!("{:?}", cursor_context(&tree, source, 0)),
+        _ => format!("{:?}", build_scope(&tree, source)),
+    }));
+    ASKING.store(false, Ordering::Relaxed);
+    run.map_or_else(|why| Text::Stopped(why.downcast_ref::<String>().cloned().unwrap_or_default()), Text::Said)
+}
+
+/// A lone quote mark stops the Rust, and ours keeps it: the frame with a letter in its place.
+pub fn without_lone_quotes(frame: &Frame) -> Frame {
+    let lone = |&i: &usize| frame.recs[i].kind == QUOTED && frame.text(i).len() == 1 && quote(frame.text(i)[0]);
+    let mut other = frame.clone();
+    for i in (0..frame.recs.len()).filter(lone) {
+        other.source[frame.recs[i].start as usize] = b'x';
+    }
+    other
+}
+
+/// The Rust cannot be asked where the source or a token is no text, and ours answers by bytes: the frame with one mark for each byte over 127.
+/// Every test of a text, by the Rust and by document 01, is for words and marks of ASCII.
+pub fn in_ascii(frame: &Frame) -> Frame {
+    let mut other = frame.clone();
+    other.source.iter_mut().filter(|b| **b > 127).for_each(|b| *b = b'~');
+    other
 }

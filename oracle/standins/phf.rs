@@ -31,6 +31,10 @@ impl Set<&'static str> {
         Set { words, slots }
     }
 
+    pub fn words(&self) -> &'static [&'static str] {
+        self.words
+    }
+
     pub fn contains(&self, word: &str) -> bool {
         let mut s = slot(word.as_bytes());
         while self.slots[s] != 0 {

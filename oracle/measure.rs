@@ -1,0 +1,108 @@
+//! The driver for a counter of instructions: on pages of several sizes and depths it asks each question of both sides, between two marks.
+use crate::desk::{self, List, Of, SCOPE};
+use crate::frames::{self, Frame, Seed};
+use crate::rust::{without_lone_quotes, Asked};
+use std::cell::RefCell;
+use std::hint::black_box;
+
+const RECORDS: [usize; 3] = [64, 1024, 4096];
+const DEPTHS: [u32; 3] = [4, 10, 63];
+const REPEATS: usize = 10;
+const MESSAGE: &str = "expected )";
+
+/// A page of statements of so many records, exactly so deep. It has few spaces that only fill it up and, but for queries over queries, a
+/// table for every hundred records.
+fn page(records: usize, depth: u32) -> Frame {
+    let fits = |f: &Frame| {
+        let filling = f.recs.iter().rev().take_while(|r| r.kind == 129).count();
+        let tables = f.recs.iter().filter(|r| r.kind == frames::TABLE_IDENTIFIER).count();
+        filling <= records / 8 && (depth == 63 || tables >= records / 100) && f.recs.iter().map(|r| r.depth).max() == Some(depth)
+    };
+    let f = (1..2000).map(|seed| frames::page(&mut Seed(seed), records, depth)).find(fits).expect("one");
+    without_lone_quotes(&f)
+}
+
+/// A mark that the counter sees: the system call getppid.
+fn mark() {
+    black_box(std::os::unix::process::parent_id());
+}
+
+/// Asked once before, so that what only a first call costs is not counted; then between two marks. What was measured is printed, a word for each column.
+fn counted(row: &str, side: &str, ask: &dyn Fn() -> usize) {
+    black_box(ask());
+    mark();
+    for _ in 0..REPEATS {
+        black_box(ask());
+    }
+    mark();
+    println!("{row} {side}");
+}
+
+/// The check on the table's bytes, as one would write it in Rust.
+fn check(table: &[u8], source: usize) -> usize {
+    if table.is_empty() || table.len() % 16 != 0 || table.len() > 65536 {
+        return 1;
+    }
+    if source > 65536 {
+        return 2;
+    }
+    let number = |r: &[u8], i: usize| u32::from_le_bytes([r[4 * i], r[4 * i + 1], r[4 * i + 2], r[4 * i + 3]]);
+    let (mut before, mut token_before, mut end_before) = (0, false, 0);
+    for (i, r) in table.chunks_exact(16).enumerate() {
+        let (kind, depth, start, end) = (number(r, 0), number(r, 1), number(r, 2), number(r, 3));
+        let token = kind >= 128;
+        if kind > 157 || !token && kind > 55 {
+            return 3 + (i << 4);
+        }
+        if i == 0 && (token || depth != 0) || i > 0 && (depth == 0 || depth > before + 1 || token_before && depth > before) {
+            return 4 + (i << 4);
+        }
+        if depth > 63 {
+            return 5 + (i << 4);
+        }
+        if token {
+            if start > end || end as usize > source || start < end_before {
+                return 6 + (i << 4);
+            }
+            end_before = end;
+        }
+        (before, token_before) = (depth, token);
+    }
+    0
+}
+
+fn measure_page(records: usize, depth: u32) {
+    let f = page(records, depth);
+    let table = f.table();
+    let rust = Asked::new(&f).expect("a text");
+    let end = f.source.len() as u32;
+    let middle = end / 2;
+    let row = |question: &str| format!("{question} {records} {depth}");
+    let out = RefCell::new(vec![0; 1 << 18]);
+    let list = |q: List, of: Of| desk::list(q, black_box(&table), black_box(&f.source), of, &mut out.borrow_mut()).1 as usize;
+    let both = |question: &str, ours: &dyn Fn() -> usize, rust: &dyn Fn() -> usize| {
+        counted(&row(question), "ours", ours);
+        counted(&row(question), "rust", rust);
+    };
+    counted(&row("nothing"), "ours", &|| 0);
+    both("check", &|| desk::check(black_box(&table), black_box(&f.source)).1 as usize, &|| check(black_box(&table), black_box(&f.source).len()));
+    both("classes", &|| list(List::Classes, Of::Root(0)), &|| rust.measure(List::Classes, 0));
+    both("openers", &|| list(List::Openers, Of::Root(0)), &|| rust.measure(List::Openers, 0));
+    both("bracket_hint", &|| desk::hint(black_box(&table), &f.source, MESSAGE.as_bytes()).1 as usize, &|| rust.hint_once(black_box(MESSAGE)));
+    both("four_lists", &|| SCOPE.map(|q| list(q, Of::Root(0))).iter().sum(), &|| rust.measure(List::TableRefs, 0));
+    counted(&row("references_alone"), "ours", &|| list(List::TableRefs, Of::Root(0)));
+    for (place, at) in [("top", 0), ("middle", middle), ("end", end)] {
+        both(&format!("context,_{place}"), &|| list(List::Context, Of::Cursor(at)), &|| rust.measure(List::Context, black_box(at)));
+    }
+    both("enclosing_statement", &|| desk::statement(black_box(&table), &f.source, middle).1 as usize, &|| rust.statement_once(black_box(middle)));
+    counted(&row("cursor's_root"), "ours", &|| desk::root(black_box(&table), &f.source, middle).1 as usize);
+    counted(&row("four_lists_at_cursor"), "ours", &|| SCOPE.map(|q| list(q, Of::Cursor(middle))).iter().sum());
+}
+
+pub fn measure() {
+    for depth in DEPTHS {
+        for records in RECORDS {
+            measure_page(records, depth);
+        }
+    }
+}
