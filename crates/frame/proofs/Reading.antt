@@ -295,20 +295,20 @@ module _ (ls : List Line) (t : List ℕ) {r : Records} {n : ℕ} where
 
 -- ---- a frame
 
-lines-some : (bs : List ℕ) → 0 < length bs → 0 < length (lines bs)
+pub lines-some : (bs : List ℕ) → 0 < length bs → 0 < length (lines bs)
 lines-some bs h = rw (first-line bs h) (omega arith)
 
-drop-two : (ls : List Line) → drop 2 ls ≡ drop 1 (drop 1 ls)
+pub drop-two : (ls : List Line) → drop 2 ls ≡ drop 1 (drop 1 ls)
 drop-two [] = refl
 drop-two (x ∷ []) = refl
 drop-two (x ∷ y ∷ ls) = refl
 
 -- a line that breaks off is of no form
-source-unended : isSource (line [] false) ≡ false
+pub source-unended : isSource (line [] false) ≡ false
 unfolding isSource isHex
 source-unended = refl
 
-numbers-unended : (n : ℕ) → isNumbers n (line [] false) ≡ false
+pub numbers-unended : (n : ℕ) → isNumbers n (line [] false) ≡ false
 unfolding isNumbers isHex
 numbers-unended n = refl
 
