@@ -28,7 +28,7 @@ use Rattle.table.specs.Text.{text}
 use Rattle.frame.specs.Lines.{Line, line, lf, begun, lines, isDigit, value, allDigits, isHex, isSource, isNumbers, offsetDigits, recordDigits, lastLine, mostBytes, mostLines, faulty, recordRules, frameRules}
 use Rattle.frame.specs.Frame.{spelt, number, pairs, first-bytes, sourceOf, offsetOf, fieldsOf, recordRow, tableOf}
 use Rattle.frame.specs.Output.{refusalLine, unlessRefused, replied, repliedTo}
-use Rattle.frame.specs.Steps.{span, lineTo, ReadRecords, ReadFrame}
+use Rattle.frame.specs.Steps.{span, lineTo, tableRoom, ReadRecords, ReadFrame}
 use Rattle.frame.specs.declared.input.Frame.{Frame}
 use Rattle.frame.specs.declared.input.Frame.the-variants.{Unreadable, Given}
 use Rattle.frame.specs.declared.input.Records.{Records}
@@ -214,9 +214,9 @@ source-front ds s e h =
     rw (e, sets-eq (pairs ds) s 0 (omega (arith, pairs-length ds))) (take-at (pairs ds) _ (length ds / 2) (pairs-length ds))
 
 -- how long lines of these forms are
-pub source-short : (l : Line) → isSource l ≡ true → length (l .bytes) ≤ 8192
+pub source-short : (l : Line) → isSource l ≡ true → length (l .bytes) ≤ 2 * mostBytes
 unfolding isSource
-source-short l h = leb-true (length (l .bytes)) 8192 (both (isHex l && eqb (length (l .bytes) % 2) 0) (leb (length (l .bytes)) 8192) h .1)
+source-short l h = leb-true (length (l .bytes)) (2 * mostBytes) (both (isHex l && eqb (length (l .bytes) % 2) 0) (leb (length (l .bytes)) (2 * mostBytes)) h .1)
 
 pub numbers-long : (n : ℕ) (l : Line) → isNumbers n l ≡ true → length (l .bytes) ≡ n
 unfolding isNumbers
@@ -275,7 +275,7 @@ front ls t₀ n e h =
     let l : length (listBytes recordRow ls) ≡ recordBytes * n = omega (arith, length-wide recordRow recordBytes row-wide ls) in
     rw (fill-sets recordRow t₀ 0 ls (omega arith), sets-eq (listBytes recordRow ls) t₀ 0 (omega arith)) (take-at (listBytes recordRow ls) _ (recordBytes * n) l)
 
-pub reading-end : (ls : List Line) (t₀ t : List ℕ) (n : ℕ) (bs : List ℕ) → length bs ≡ 0 → length t₀ ≡ 16384 → n ≤ mostLines → Reading ls t₀ (lines bs) t n
+pub reading-end : (ls : List Line) (t₀ t : List ℕ) (n : ℕ) (bs : List ℕ) → length bs ≡ 0 → length t₀ ≡ tableRoom → n ≤ mostLines → Reading ls t₀ (lines bs) t n
     → ReadRecords ls t (Read n)
 unfolding ReadRecords lines recordRules fill
 reading-end ls t₀ t n [] z l h w =

@@ -22,6 +22,10 @@ use Rattle.frame.specs.Output.{printed}
 
 -- ---- reading
 
+-- how many bytes of room a frame's table has
+abbrev pub tableRoom : ℕ
+tableRoom = 16384
+
 -- how many bytes stand before the first LF
 unfoldable pub span : List ℕ → ℕ
 span [] = 0

@@ -7,13 +7,14 @@ ghost use Prim.Native.Nat.{_+_, _*_, _≤_, _<_};
 ghost use lib.ListN.{length, drop};
 ghost use lib.Seq.{sets};
 ghost use Rattle.table.specs.Lists.{put};
-ghost use Rattle.frame.specs.Lines.{lines, isDigit, value, allDigits, isHex, isSource, isNumbers};
+ghost use Rattle.frame.specs.Lines.{lines, isDigit, value, allDigits, isHex, isSource, isNumbers, mostBytes};
 ghost use Rattle.frame.specs.Frame.{number, pairs, fieldsOf};
-ghost use Rattle.frame.specs.Steps.{span, lineTo, ReadRecords, ReadFrame};
+ghost use Rattle.frame.specs.Steps.{span, lineTo, tableRoom, ReadRecords, ReadFrame};
 
 const LF: u8 = 10;
 
-const MOST_BYTES: usize = 4096;
+// The most bytes of a source.
+pub const MOST_BYTES: usize = 4096;
 
 const OFFSET_DIGITS: usize = 8;
 
@@ -144,7 +145,7 @@ fn read_source(digits: &[u8], source: &mut [u8])
 
 // Writes a record from byte `at` of the table on.
 fn put_record(table: &mut [u8], at: usize, digits: &[u8])
-    requires { ⌜ at ≤ 16384 ⌝ }
+    requires { ⌜ at ≤ tableRoom ⌝ }
     ensures { λ _. ⌜ now (table .exit) ≡ put (now (table .entry)) at (fieldsOf (now (digits .entry))) ⌝ }
 {
     let kind = number(text_of(digits, 0, 2));
@@ -157,7 +158,7 @@ fn put_record(table: &mut [u8], at: usize, digits: &[u8])
 
 // Reads the records' lines into the table.
 fn read_records(text: &[u8], table: &mut [u8]) -> Records
-    requires { ⌜ length (now table) ≡ 16384 ⌝ }
+    requires { ⌜ length (now table) ≡ tableRoom ⌝ }
     ensures { λ r. ⌜ ReadRecords (lines (now (text .entry))) (now (table .exit)) r ⌝ }
 {
     let mut rest = text;
@@ -178,7 +179,7 @@ fn read_records(text: &[u8], table: &mut [u8]) -> Records
 
 // Reads the source and the table into their buffers.
 pub fn read_frame(input: &[u8], source: &mut [u8], table: &mut [u8]) -> Frame
-    requires { ⌜ (length (now source) ≡ 4096) × (length (now table) ≡ 16384) ⌝ }
+    requires { ⌜ (length (now source) ≡ mostBytes) × (length (now table) ≡ tableRoom) ⌝ }
     ensures { λ r. ⌜ ReadFrame (lines (now (input .entry))) (now (source .exit)) (now (table .exit)) r ⌝ }
 {
     let end = line_end(input);

@@ -3,6 +3,7 @@ pub mod input;
 mod output;
 
 use input::Frame;
+use input::MOST_BYTES;
 use input::read_frame;
 use output::put_refusal;
 use output::put_reply;
@@ -13,10 +14,13 @@ ghost use Prim.Native.Nat.{_≤_};
 ghost use lib.ListN.{length, drop};
 ghost use Rattle.frame.specs.Output.{glanced};
 
-// How many bytes of room every answer has.
+// How many bytes of room the table of a frame has: 1,024 records.
+const TABLE_ROOM: usize = 16384;
+
+// How many bytes of room every answer has: 79 for each line that there can be.
 pub const TEXT_ROOM: usize = 208244;
 
-// The most bytes that matter of an input: every longer one has a fault before them.
+// How many bytes of an input matter (specs/Enough.antt): a longer one has a fault within them.
 pub const INPUT_ROOM: usize = 29707;
 
 // Reads a frame, asks the questions and writes what glance prints, from out's first byte on. Returns how many bytes that is.
@@ -25,8 +29,8 @@ pub fn glance(input: &[u8], out: &mut [u8; TEXT_ROOM]) -> usize
         × (now (out .exit) ≡ glanced (now (input .entry)) ++ drop (length (glanced (now (input .entry)))) (now (out .entry)))
         × (r ≤ length (now (out .exit))) ⌝ }
 {
-    let mut source = [0u8; 4096];
-    let mut table = [0u8; 16384];
+    let mut source = [0u8; MOST_BYTES];
+    let mut table = [0u8; TABLE_ROOM];
     match read_frame(input, &mut source, &mut table) {
         Frame::Unreadable(line) => put_refusal(out, 9, line),
         Frame::Given(bytes, offset, records) => {

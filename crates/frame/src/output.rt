@@ -21,10 +21,18 @@ ghost use Rattle.table.specs.Table.{count};
 ghost use Rattle.table.specs.Lists.{numberBytes};
 ghost use Rattle.cursor.specs.Context.{contextAt};
 ghost use Rattle.scope.specs.declared.scope.Enclosing.the-variants.{Record};
+ghost use Rattle.scope.specs.ScopeQuestions.{referenceBytes};
 ghost use Rattle.scope.specs.Statement.{enclosingAt};
 ghost use Rattle.frame.specs.Lines.{mostLines};
 ghost use Rattle.frame.specs.Output.{decimal, field, range, fields, ranges, printed, contextLine, statementLine, classLines, openerLines, refusalLine, answeredBy, replied};
 ghost use Rattle.frame.specs.Steps.{Put, words, printedWords, lineRoom, mostReferences, textRoom};
+
+// How many bytes of room the lists have: the references as document 01 says, the others for an entry of each record.
+const REFERENCE_ROOM: usize = 16384;
+
+const CLASS_ROOM: usize = 12288;
+
+const OPENER_ROOM: usize = 4096;
 
 // How many values 32 bits have.
 const VALUES: usize = 4294967296;
@@ -210,7 +218,7 @@ fn put_classes(out: &mut [u8], at: usize, table: &[u8], source: &[u8]) -> usize
     requires { ⌜ (Admitted ≡ verdict (now table) (length (now source)) 0) × (count (now table) ≤ mostLines) × (at + lineRoom * mostLines ≤ length (now out)) ⌝ }
     ensures { λ r. ⌜ Put (classLines (now (source .entry)) (now (table .entry))) (now (out .entry)) at (now (out .exit)) r × (r ≤ at + lineRoom * mostLines) ⌝ }
 {
-    let mut list = [0u8; 12288];
+    let mut list = [0u8; CLASS_ROOM];
     match token_classes(table, source, &mut list) {
         Listed::Entries(n) => put_list(out, at, b'K', &list, n as usize, 3, 0),
         Listed::Refused(_, _) => at,
@@ -222,7 +230,7 @@ fn put_openers(out: &mut [u8], at: usize, table: &[u8], source: &[u8]) -> usize
     requires { ⌜ (Admitted ≡ verdict (now table) (length (now source)) 0) × (count (now table) ≤ mostLines) × (at + lineRoom * mostLines ≤ length (now out)) ⌝ }
     ensures { λ r. ⌜ Put (openerLines (now (table .entry))) (now (out .entry)) at (now (out .exit)) r × (r ≤ at + lineRoom * mostLines) ⌝ }
 {
-    let mut list = [0u8; 4096];
+    let mut list = [0u8; OPENER_ROOM];
     match openers_left(table, source, &mut list) {
         Listed::Entries(n) => put_list(out, at, b'O', &list, n as usize, 1, 0),
         Listed::Refused(_, _) => at,
@@ -248,7 +256,7 @@ fn put_answer(
     refs: &[u8],
     n: usize,
 ) -> usize
-    requires { ⌜ (Admitted ≡ verdict (now table) (length (now source)) 0) × (count (now table) ≤ mostLines) × (n * 28 ≤ length (now refs)) × (n ≤ mostReferences) × (textRoom ≤ length (now out)) ⌝ }
+    requires { ⌜ (Admitted ≡ verdict (now table) (length (now source)) 0) × (count (now table) ≤ mostLines) × (n * referenceBytes ≤ length (now refs)) × (n ≤ mostReferences) × (textRoom ≤ length (now out)) ⌝ }
     ensures { λ r. ⌜ Put (answeredBy (now (source .entry)) (now (table .entry)) offset (printedWords 84 1 7 (now (refs .entry)) 0 n)) (now (out .entry)) 0 (now (out .exit)) r × (r ≤ textRoom) ⌝ }
 {
     let first = put_context(out, 0, table, source, offset);
@@ -264,7 +272,7 @@ pub fn put_reply(out: &mut [u8], table: &[u8], source: &[u8], offset: usize) -> 
     requires { ⌜ (count (now table) ≤ mostLines) × (textRoom ≤ length (now out)) ⌝ }
     ensures { λ r. ⌜ Put (replied (now (source .entry)) (now (table .entry)) offset) (now (out .entry)) 0 (now (out .exit)) r × (r ≤ textRoom) ⌝ }
 {
-    let mut refs = [0u8; 16384];
+    let mut refs = [0u8; REFERENCE_ROOM];
     match table_refs(table, source, 0, &mut refs) {
         Listed::Refused(k, d) => put_refusal(out, k, d),
         Listed::Entries(n) => put_answer(out, table, source, offset, &refs, n as usize),
