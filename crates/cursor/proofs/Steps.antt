@@ -60,3 +60,12 @@ way-gathered o t = refl
 
 pub nothing-within : (n : ℕ) → 0 < n → Within n nothing
 nothing-within n h = record { node = h; ruled = h; statement = omega arith; query = omega arith }
+
+-- a walk over children has the first that is taken, or 0 so far; after child i it has one only if that is taken, and this one
+pub chosen-taken : (b : Bool) {i old new : ℕ} → new ≡ cond b i old → old ≡ 0 → 0 < new → (b ≡ true) × (new ≡ i)
+chosen-taken true e z h = (refl, e)
+chosen-taken false e z h = absurd (omega arith)
+
+pub chosen-passed : (b : Bool) {i old new : ℕ} → new ≡ cond b i old → old ≡ 0 → new ≡ 0 → 1 ≤ i → b ≡ false
+chosen-passed true e z n h = absurd (omega arith)
+chosen-passed false e z n h = refl

@@ -715,7 +715,8 @@ fn starts_after(source: &[u8], last: Name) -> bool
     }
 }
 
-// The way from record 0, which is on it whatever its span, down to the offset.
+// The way from record 0, which is on it whatever its span, down to the offset. `child` is the first that holds it, 0 for none
+// yet: it ends the walk.
 pub fn find_node_path(table: &[u8], offset: usize) -> Gathered
     requires { ⌜ (0 < count (now table)) × (count (now table) < 4294967296) ⌝ }
     ensures { λ r. ⌜ (r ≡ gathered (pathAt (now (table .entry)) offset)) × Within (count (now (table .entry))) r ⌝ }
@@ -725,16 +726,21 @@ pub fn find_node_path(table: &[u8], offset: usize) -> Gathered
     let mut base = 0;
     'descent: loop {
         let m = count_of(s);
+        let mut child = 0;
         let mut i = child_from(s, 1);
         let found = loop {
             if i >= m {
-                break 'descent;
+                break child;
             }
-            if is_taken(s, i, offset) {
-                break i;
+            child = chosen(is_taken(s, i, offset), i, child);
+            if 0 < child {
+                break child;
             }
             i = child_from(s, i + 1);
         };
+        if found == 0 {
+            break 'descent;
+        }
         let kind = kind_at(s, found);
         let part = rest_from(s, found);
         base += found;
