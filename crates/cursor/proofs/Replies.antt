@@ -48,6 +48,17 @@ module _ {v w : Verdict} (c : CursorContext) (e : v ≡ w) where
   unfolding contextReply
   reply-given q p = rw (← e, q, p)
 
+-- what a reply says of the verdict that it was given on, and of the context
+pub refused-is : (v : Verdict) (x : CursorContext) {k d : ℕ} → Denied k d ≡ contextReply v x → Refused k d ≡ v
+unfolding contextReply
+refused-is Admitted x e = absurd (let z : _≡_ {A = ℕ} 0 1 = cc in omega arith)
+refused-is (Refused k′ d′) x e = cc
+
+pub given-is : (v : Verdict) (x : CursorContext) {y : CursorContext} → Context y ≡ contextReply v x → (Admitted ≡ v) × (y ≡ x)
+unfolding contextReply
+given-is Admitted x e = (refl, cc)
+given-is (Refused k d) x e = absurd (let z : _≡_ {A = ℕ} 0 1 = cc in omega arith)
+
 -- an admitted table has a record, and few
 pub sized : (t : List ℕ) (n : ℕ) {v : Verdict} → v ≡ verdict t n 0 → v ≡ Admitted → (0 < count t) × (count t < 4294967296)
 sized t n e q = let y = admitted-tidy t n 0 (sym e ∙ q) in (y .some, omega (arith, y .few))

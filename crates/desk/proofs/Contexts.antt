@@ -2,11 +2,8 @@
 --     context-refused, context-given     the reply of the question, as that of a list
 -- Assumes nothing.
 use Prim.Native.Nat.{ℕ}
-use native.Mathlib.Omega.{arith}
-use mathlib.Core.Path.{_≡_, refl}
+use mathlib.Core.Path.{_≡_}
 use mathlib.Core.List.{List, [], _∷_}
-use Rattle.table.specs.declared.check.Verdict.{Verdict}
-use Rattle.table.specs.declared.check.Verdict.the-variants.{Admitted, Refused}
 use Rattle.table.specs.declared.list.Listed.{Listed}
 use Rattle.table.specs.declared.list.Listed.the-variants.{Refused as Unlisted}
 use Rattle.table.specs.Rules.{rules, first, verdict}
@@ -15,17 +12,8 @@ use Rattle.table.proofs.Writes.{list-refused, list-admitted}
 use Rattle.cursor.specs.declared.cursor_context.CursorContext.{CursorContext}
 use Rattle.cursor.specs.declared.cursor_context.ContextReply.the-variants.{Context, Refused as Denied}
 use Rattle.cursor.specs.Context.{contextReply}
+use Rattle.cursor.proofs.Replies.{refused-is, given-is}
 use Rattle.desk.specs.Reply.{contextRow}
-
-refused-is : (v : Verdict) (x : CursorContext) {k d : ℕ} → Denied k d ≡ contextReply v x → Refused k d ≡ v
-unfolding contextReply
-refused-is Admitted x e = absurd (let z : _≡_ {A = ℕ} 0 1 = cc in omega arith)
-refused-is (Refused k′ d′) x e = cc
-
-given-is : (v : Verdict) (x : CursorContext) {y : CursorContext} → Context y ≡ contextReply v x → (Admitted ≡ v) × (y ≡ x)
-unfolding contextReply
-given-is Admitted x e = (refl, cc)
-given-is (Refused k d) x e = absurd (let z : _≡_ {A = ℕ} 0 1 = cc in omega arith)
 
 module _ (t : List ℕ) (n : ℕ) (x : CursorContext) (out : List ℕ) where
   pub context-refused : {k d : ℕ} → Denied k d ≡ contextReply (verdict t n 0) x

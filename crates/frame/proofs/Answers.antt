@@ -1,5 +1,5 @@
 -- What the replies of the questions say where the table is admitted, and how much room their lists need.
---     context-given, ..     the context, the statement: no refusal
+--     statement-found, ..   the statement: no refusal
 --     list-given, ..        a list that is answered, and one that is not
 --     classes-fit, ..       classes and openers: no more than records
 -- Assumes nothing.
@@ -31,25 +31,16 @@ use Rattle.scope.specs.Statement.{told, statementReply}
 use Rattle.scope.specs.Classes.{numberOf, entryOf, classOf, classes, classesOf}
 use Rattle.scope.specs.declared.semantic_tokens.TokenClass.the-variants.{Unclassed}
 use Rattle.scope.specs.Brackets.{isOpener, isCloser, fits, closed, stepped, left, stackLeft, indexOf, openersLeft}
-use Rattle.cursor.specs.declared.cursor_context.CursorContext.{CursorContext}
-use Rattle.cursor.specs.declared.cursor_context.ContextReply.the-variants.{Context, Refused as Denied}
-use Rattle.cursor.specs.Context.{contextReply}
 use Rattle.scope.specs.ScopeQuestions.{referenceRow, tableRefs}
 use Rattle.frame.specs.Output.{printedList, referenceLines, answeredBy, answered, refusalLine, referenceRoom, questionVerdict, unlessRefused, replied}
 use Rattle.frame.specs.Steps.{printedWords}
 use Rattle.frame.proofs.Writing.{printed-are}
 
--- ---- the context and the statement
+-- ---- the statement
 
-pub context-given : (v : Verdict) (x : CursorContext) → Admitted ≡ v → {y : CursorContext} → Context y ≡ contextReply v x → x ≡ y
-unfolding contextReply
-context-given Admitted x a e = cc
-context-given (Refused k d) x a e = absurd (let z : _≡_ {A = ℕ} 0 1 = cc in omega arith)
-
-pub context-denied : (v : Verdict) (x : CursorContext) → Admitted ≡ v → {k d : ℕ} → Denied k d ≡ contextReply v x → ⊥
-unfolding contextReply
-context-denied Admitted x a e = let z : _≡_ {A = ℕ} 0 1 = cc in omega arith
-context-denied (Refused k d) x a e = let z : _≡_ {A = ℕ} 0 1 = cc in omega arith
+-- a verdict does not both admit and refuse
+pub never-both : {v : Verdict} {k d : ℕ} → Admitted ≡ v → Refused k d ≡ v → ⊥
+never-both a r = let z : _≡_ {A = ℕ} 0 1 = cc in omega arith
 
 pub statement-found : (v : Verdict) (x : Enclosing) → Admitted ≡ v → {n : ℕ} → Statement n ≡ statementReply v x → x ≡ Record n
 unfolding statementReply told
@@ -87,10 +78,7 @@ admitted-first [] more a = refl
 admitted-first (r ∷ rs) more a = go (r .broken) refl (admitted-first rs more)
   where
     go : (b : Bool) → r .broken ≡ b → (Admitted ≡ first (rs ++ more) → Admitted ≡ first rs) → Admitted ≡ first (r ∷ rs)
-    go true e ih = absurd (let z : _≡_ {A = ℕ} 0 1 = clash (rw e at a) in omega arith)
-      where
-        clash : {k d : ℕ} → Admitted ≡ Refused k d → _≡_ {A = ℕ} 0 1
-        clash q = cc
+    go true e ih = absurd (never-both (rw e at a) refl)
     go false e ih = rw e (ih (rw e at a))
 
 module _ {E : Type 0} (row : E → List ℕ) (rs : List Rule) (es : List E) (out : List ℕ) where
@@ -110,20 +98,12 @@ module _ {E : Type 0} (row : E → List ℕ) (rs : List Rule) (es : List E) (out
   list-room a = go (ltb (length out) (length (listBytes row es))) refl
     where
       go : (b : Bool) → ltb (length out) (length (listBytes row es)) ≡ b → length (listBytes row es) ≤ length out
-      go true e = absurd (let z : _≡_ {A = ℕ} 0 1 = clash (rw e at (a ∙ then-admitted rs (roomRule row es out ∷ []) (admitted-first rs (roomRule row es out ∷ []) a))) in omega arith)
-        where
-          clash : {k d : ℕ} → Admitted ≡ Refused k d → _≡_ {A = ℕ} 0 1
-          clash q = cc
+      go true e = absurd (never-both (rw e at (a ∙ then-admitted rs (roomRule row es out ∷ []) (admitted-first rs (roomRule row es out ∷ []) a))) refl)
       go false e = ltb-false (length out) (length (listBytes row es)) e
 
   -- a list that has room is not refused where its question is not
   pub list-not-denied : Admitted ≡ first rs → length (listBytes row es) ≤ length out → {k d : ℕ} → Unlisted k d ≡ listed rs row es out → ⊥
-  list-not-denied a h e =
-      let z : _≡_ {A = ℕ} 0 1 = clash (rw (le-ltb (length out) (length (listBytes row es)) h) at (list-denied e ∙ then-admitted rs (roomRule row es out ∷ []) a)) in
-      omega arith
-    where
-      clash : {k d : ℕ} → Refused k d ≡ Admitted → _≡_ {A = ℕ} 0 1
-      clash q = cc
+  list-not-denied a h e = never-both refl (rw (le-ltb (length out) (length (listBytes row es)) h) at (list-denied e ∙ then-admitted rs (roomRule row es out ∷ []) a))
 
 -- a list whose entries have w numbers each
 module _ {E : Type 0} (row : E → List ℕ) (w : ℕ) (wide : (e : E) → length (row e) ≡ w) where

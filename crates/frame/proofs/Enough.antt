@@ -25,10 +25,11 @@ use Rattle.frame.specs.Output.{refusalLine, unlessRefused, replied, repl
 use Rattle.frame.specs.Frame.{sourceOf, offsetOf, tableOf}
 use Rattle.frame.specs.Steps.{span, lineTo}
 use Rattle.frame.specs.Enough.{inputRoom, Enough}
+use Rattle.frame.proofs.Answers.{never-both}
 use Rattle.frame.proofs.Reading.{first-line, first-faulty, lines-behind, lines-some, drop-two, source-unended, numbers-unended, source-short, numbers-long}
 
 clash : {k d : ℕ} → Admitted ≡ Refused k d → ⊥
-clash q = let z : _≡_ {A = ℕ} 0 1 = cc in omega arith
+clash q = never-both q refl
 
 untrue : {b : Bool} → b ≡ true → b ≡ false → ⊥
 untrue p q = let z : _≡_ {A = ℕ} 0 1 = cc in omega arith

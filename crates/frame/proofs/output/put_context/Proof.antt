@@ -1,4 +1,5 @@
-use Rattle.frame.proofs.Answers.{context-given, context-denied}
+use Rattle.cursor.proofs.Replies.{refused-is, given-is}
+use Rattle.frame.proofs.Answers.{never-both}
 use mathlib.Core.Path.{sym, _∙_}
 use native.Mathlib.Omega.{arith}
 use borrow.Author.Needs.{needs}
@@ -14,5 +15,5 @@ put-context-spec =
     (λ c κs. search needs)  -- put-code-requires
     (λ c. search needs)  -- enum-told
     (λ c. search needs)  -- same-length
-    (λ c. (rw (context-given _ _ (c .before .before .before .before .before .before .before .before .before .before .before .pre .0) (sym (c .before .before .before .before .before .c .given .1) ∙ c .before .before .before .before .before .before .before .cursor-context .ensures)) (c .before .before .put-code .ensures .0), omega arith))  -- returns
-    (λ c. absurd (context-denied _ _ (c .before .before .before .before .before .before .pre .0) (sym (c .enum-told .given .1) ∙ c .before .before .cursor-context .ensures))))  -- returns-2
+    (λ c. (rw (← given-is _ _ (sym (c .before .before .before .before .before .c .given .1) ∙ c .before .before .before .before .before .before .before .cursor-context .ensures) .1) (c .before .before .put-code .ensures .0), omega arith))  -- returns
+    (λ c. absurd (never-both (c .before .before .before .before .before .before .pre .0) (refused-is _ _ (sym (c .enum-told .given .1) ∙ c .before .before .cursor-context .ensures)))))  -- returns-2
