@@ -195,7 +195,7 @@ module _ (src t : List ℕ) (o : ℕ) (near : (i : ℕ) → Every Near (inside t
   ranged-context : Ranged (contextAt src t o)
   unfolding contextAt
   ranged-context =
-      ranged-given _ (trailingRule t o (pathAt t o)) (ranged-given (lastRule src t o) (pathRule src t o (pathAt t o)) ranged-last (fine-path (onPath joinConstraint (pathAt t o)) (pathAt t o))) (fine-trailing t o (deepest isStatement (pathAt t o)))
+      search (ranged-given, ranged-last, fine-path (onPath joinConstraint (pathAt t o)) (pathAt t o), fine-trailing t o (deepest isStatement (pathAt t o)))
 
 pub given-ranged : (src t : List ℕ) (n o : ℕ) → verdict t n 0 ≡ Admitted → Ranged (contextAt src t o)
 unfolding recordAt
