@@ -26,7 +26,7 @@ use Rattle.table.proofs.Texts.{both}
 use Rattle.table.proofs.Writes.{fill-sets, length-wide}
 use Rattle.table.specs.Text.{text}
 use Rattle.frame.specs.Lines.{Line, line, lf, begun, lines, isDigit, value, allDigits, isHex, isSource, isNumbers, offsetDigits, recordDigits, lastLine, mostBytes, mostLines, faulty, recordRules, frameRules}
-use Rattle.frame.specs.Frame.{spelt, number, pairs, first-bytes, sourceOf, offsetOf, fieldsOf, recordRow, tableOf}
+use Rattle.frame.specs.Frame.{spelt, number, pairs, firstBytes, sourceOf, offsetOf, fieldsOf, recordRow, tableOf}
 use Rattle.frame.specs.Output.{refusalLine, unlessRefused, replied, repliedTo}
 use Rattle.frame.specs.Steps.{span, lineTo, tableRoom, ReadRecords, ReadFrame}
 use Rattle.frame.specs.declared.input.Frame.{Frame}
@@ -156,8 +156,8 @@ unfolding lines span
 lines-behind [] = refl
 lines-behind (b ∷ bs) = rw (first-line (b ∷ bs) (omega arith))
 
-pub first-bytes-are : (bs : List ℕ) → first-bytes (lines bs) ≡ take (span bs) bs
-unfolding lines span first-bytes
+pub first-bytes-are : (bs : List ℕ) → firstBytes (lines bs) ≡ take (span bs) bs
+unfolding lines span firstBytes
 first-bytes-are [] = refl
 first-bytes-are (b ∷ bs) = rw (first-line (b ∷ bs) (omega arith))
 

@@ -23,17 +23,17 @@ pairs (a ∷ []) = []
 pairs (a ∷ b ∷ ds) = (value a * 16 + value b) ∷ pairs ds
 
 -- the bytes of the first of these lines
-unfoldable pub first-bytes : List Line → List ℕ
-first-bytes [] = []
-first-bytes (l ∷ ls) = l .bytes
+unfoldable pub firstBytes : List Line → List ℕ
+firstBytes [] = []
+firstBytes (l ∷ ls) = l .bytes
 
 -- the source
 abbrev pub sourceOf : List Line → List ℕ
-sourceOf ls = pairs (first-bytes ls)
+sourceOf ls = pairs (firstBytes ls)
 
 -- the offset
 abbrev pub offsetOf : List Line → ℕ
-offsetOf ls = number (first-bytes (drop 1 ls))
+offsetOf ls = number (firstBytes (drop 1 ls))
 
 -- the four numbers of a record's line: kind and depth of two digits, start and end of eight
 unfoldable pub fieldsOf : List ℕ → List ℕ

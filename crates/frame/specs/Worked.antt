@@ -27,7 +27,7 @@ use Rattle.cursor.specs.Trailing.{lastClause, pastClause, pastEnd, trailingIn}
 use Rattle.cursor.specs.PathRules.{nextOf, isDeepest, deepestOver, tableReference, joined, functionArgument, columnOr, column, pathRules, ruled, orElse, byPath}
 use Rattle.cursor.specs.Context.{startsAfter, lastRule, givenOr, contextAt, rangeOf, referenceNumber, coded}
 use Rattle.frame.specs.Lines.{lf, begun, lines, isDigit, value, allDigits, isHex, isSource, isNumbers, faulty, recordRules}
-use Rattle.frame.specs.Frame.{spelt, pairs, first-bytes, fieldsOf}
+use Rattle.frame.specs.Frame.{spelt, pairs, firstBytes, fieldsOf}
 use Rattle.frame.specs.Output.{digits, decimal, range, fields, ranges, printed, printedList, contextLine, statementLine, answered, questionVerdict, unlessRefused, repliedTo, glanced}
 
 -- ---- a case: an input, and what is printed for it
@@ -125,5 +125,5 @@ expecting [] = []
 expecting (c ∷ cs) = c .prints ∷ expecting cs
 
 worked : printing cases ≡ expecting cases
-unfolding printing expecting cases ended glyph chain word recordAt run from level kids extent stretchEnd misplaced lastEnd badSpan rulesFrom rowBytes listBytes text bytesOf upper says only tokensOf path pathOf along isKeyword keywords between judged bareword byParent classOf numberOf entryOf classes fits closed stepped left isAs isPart isName direct unquoted nameOf binding firstOf lastOf entered collected collection entry gathered fresh aliased handOn listAlias reading ownWith ownColumns ownTables orFound firstFind enclosingAt deepestOr onPath lastOr init lastTwo isText isWord dotted isJoinWord bareWordIn orName functionName argued arguments lastClause pastClause pastEnd trailingIn nextOf isDeepest deepestOver tableReference joined functionArgument columnOr column pathRules ruled orElse byPath startsAfter lastRule givenOr contextAt rangeOf referenceNumber coded begun lines isDigit value allDigits isHex isSource isNumbers faulty recordRules spelt pairs first-bytes fieldsOf digits decimal range fields ranges printed printedList contextLine statementLine answered questionVerdict unlessRefused repliedTo
+unfolding printing expecting cases ended glyph chain word recordAt run from level kids extent stretchEnd misplaced lastEnd badSpan rulesFrom rowBytes listBytes text bytesOf upper says only tokensOf path pathOf along isKeyword keywords between judged bareword byParent classOf numberOf entryOf classes fits closed stepped left isAs isPart isName direct unquoted nameOf binding firstOf lastOf entered collected collection entry gathered fresh aliased handOn listAlias reading ownWith ownColumns ownTables orFound firstFind enclosingAt deepestOr onPath lastOr init lastTwo isText isWord dotted isJoinWord bareWordIn orName functionName argued arguments lastClause pastClause pastEnd trailingIn nextOf isDeepest deepestOver tableReference joined functionArgument columnOr column pathRules ruled orElse byPath startsAfter lastRule givenOr contextAt rangeOf referenceNumber coded begun lines isDigit value allDigits isHex isSource isNumbers faulty recordRules spelt pairs firstBytes fieldsOf digits decimal range fields ranges printed printedList contextLine statementLine answered questionVerdict unlessRefused repliedTo
 worked = refl
