@@ -9,9 +9,8 @@ use mathlib.Core.Path.{_≡_, refl, sym, ap, _∙_}
 use mathlib.Core.Logic.{⊎-elim}
 use mathlib.Core.Bool.{Bool, true, false, cond, not, _&&_, _||_, or-true}
 use mathlib.Core.List.{List, [], _∷_}
-use native.Mathlib.Numerals.{add-one}
 use native.Mathlib.Omega.{arith}
-use borrow.Author.Tests.{eq-eqb, ne-eqb, lt-ltb, le-ltb, ltb-true, ltb-false}
+use borrow.Author.Tests.{ne-eqb, lt-ltb, le-ltb, ltb-true, ltb-false}
 use lib.Dec.{eqb, ltb, leb}
 use lib.ListN.{length, take, drop, length-drop}
 use lib.Seq.{length-take-le, take-all, take-take, take-nil}
@@ -22,7 +21,6 @@ use Rattle.table.proofs.Laws.{lt-or-le}
 use Rattle.table.proofs.Texts.{both}
 use Rattle.frame.specs.Lines.{Line, line, lf, lines, allDigits, isHex, isSource, isNumbers, offsetDigits, recordDigits, lastLine, faulty, recordRules, frameRules}
 use Rattle.frame.specs.Output.{refusalLine, unlessRefused, replied, repliedTo, glanced}
-use Rattle.frame.specs.Frame.{sourceOf, offsetOf, tableOf}
 use Rattle.frame.specs.Steps.{span, lineTo}
 use Rattle.frame.specs.Enough.{inputRoom, Enough}
 use Rattle.frame.proofs.Answers.{never-both}

@@ -6,15 +6,14 @@
 --     printed-are                 what is read back from a list's bytes is the list
 -- Assumes nothing.
 use Prim.Native.Nat.{ℕ, zero, suc, _+_, _-_, _*_, _/_, _%_, _^_, _≤_, _<_}
-use mathlib.Core.Path.{_≡_, refl, sym, ap, _∙_}
-use mathlib.Core.Bool.{Bool, true, false, cond, _&&_}
+use mathlib.Core.Path.{_≡_, refl, ap, _∙_}
+use mathlib.Core.Bool.{Bool, true, false, _&&_}
 use mathlib.Core.List.{List, [], _∷_, _++_, map, append-assoc}
-use native.Mathlib.Numerals.{add-one}
 use native.Mathlib.Omega.{arith}
-use native.Mathlib.Nat.{pow-suc, add-assoc, add-zero, suc-mul, zero-add, div-div-eq-div-mul, mod-eq-of-lt}
+use native.Mathlib.Nat.{pow-suc, add-assoc, suc-mul, zero-add, div-div-eq-div-mul, mod-eq-of-lt}
 use borrow.Author.Tests.{lt-ltb, le-ltb, ltb-true, ltb-false}
 use lib.Dec.{ltb, eqb}
-use lib.ListN.{length, getD, take, drop, set, length-append, length-map}
+use lib.ListN.{length, getD, take, drop, set, length-append}
 use lib.Seq.{sets, length-sets, sets-eq, getD-append-add}
 use Rattle.table.specs.Table.{word}
 use Rattle.table.specs.Lists.{numberBytes, le4, rowBytes, listBytes}

@@ -22,22 +22,45 @@ use Rattle.cursor.specs.Context.{contextAt, coded}
 use Rattle.frame.specs.Lines.{Line, lf, lines, frameRules}
 use Rattle.frame.specs.Frame.{sourceOf, offsetOf, tableOf}
 
+-- ---- the bytes that stand for themselves: a space, and the letters that begin the lines
+
+abbrev pub space : ℕ
+space = 32
+
+abbrev pub letterC : ℕ
+letterC = 67
+
+abbrev pub letterS : ℕ
+letterS = 83
+
+abbrev pub letterT : ℕ
+letterT = 84
+
+abbrev pub letterK : ℕ
+letterK = 75
+
+abbrev pub letterO : ℕ
+letterO = 79
+
+abbrev pub letterR : ℕ
+letterR = 82
+
 -- ---- numbers and ranges
 
--- the digits of v in base ten, the most significant first, where v has n digits at most
+-- the digits of v in base ten, the most significant first: as many as it has, n at most
 unfoldable pub digits : ℕ → ℕ → List ℕ
 digits zero v = []
 digits (suc n) v =
     let more : List ℕ = digits n (v / 10) ++ (48 + v % 10) ∷ [] in
     cond (ltb v 10) ((48 + v) ∷ []) more
 
--- numbers are decimal
+-- numbers are decimal: v has at most v + 1 digits
 unfoldable pub decimal : ℕ → List ℕ
 decimal v = digits (suc v) v
 
 -- a number after a space
 abbrev pub field : ℕ → List ℕ
-field v = 32 ∷ decimal v
+field v = space ∷ decimal v
 
 -- an absent range is 4294967295 twice, and is printed as `- -`
 unfoldable pub range : ℕ → ℕ → List ℕ
@@ -71,24 +94,24 @@ printedList letter n (r ∷ rs) = printed letter n (map held r) ++ printedList l
 -- C: context, name range, argument index
 unfoldable pub contextLine : CursorContext → List ℕ
 contextLine c =
-    67 ∷ field (held (coded c .number)) ++ range (held (coded c .name .start)) (held (coded c .name .end)) ++ field (held (coded c .index)) ++ lf ∷ []
+    letterC ∷ field (held (coded c .number)) ++ range (held (coded c .name .start)) (held (coded c .name .end)) ++ field (held (coded c .index)) ++ lf ∷ []
 
 -- S: statement record or `-`
 unfoldable pub statementLine : Enclosing → List ℕ
 statementLine Outside = bytesOf "S -" ++ lf ∷ []
-statementLine (Record n) = 83 ∷ field (held n) ++ lf ∷ []
+statementLine (Record n) = letterS ∷ field (held n) ++ lf ∷ []
 
 -- T: references of record 0, a line each, fields as in the entry
 abbrev pub referenceLines : List ℕ → List ℕ → List ℕ
-referenceLines src t = printedList 84 1 (map referenceRow (tableRefs src t 0))
+referenceLines src t = printedList letterT 1 (map referenceRow (tableRefs src t 0))
 
 -- K: classes, likewise
 abbrev pub classLines : List ℕ → List ℕ → List ℕ
-classLines src t = printedList 75 3 (map classRow (classesOf src t))
+classLines src t = printedList letterK 3 (map classRow (classesOf src t))
 
 -- O: the record of an opener left, a line each
 abbrev pub openerLines : List ℕ → List ℕ
-openerLines t = printedList 79 1 (map openerRow (openersLeft t))
+openerLines t = printedList letterO 1 (map openerRow (openersLeft t))
 
 -- E ends it
 abbrev pub endLine : List ℕ
@@ -96,7 +119,7 @@ endLine = bytesOf "E" ++ lf ∷ []
 
 -- R: a refusal's number and detail
 abbrev pub refusalLine : ℕ → ℕ → List ℕ
-refusalLine k d = 82 ∷ field k ++ field d ++ lf ∷ []
+refusalLine k d = letterR ∷ field k ++ field d ++ lf ∷ []
 
 -- ---- the whole text
 
@@ -105,6 +128,7 @@ abbrev pub answeredBy : List ℕ → List ℕ → ℕ → List ℕ → List ℕ
 answeredBy src t o refs =
     contextLine (contextAt src t o) ++ statementLine (enclosingAt t o) ++ refs ++ classLines src t ++ openerLines t ++ endLine
 
+-- the answer, with the lines of record 0's references
 unfoldable pub answered : List ℕ → List ℕ → ℕ → List ℕ
 answered src t o = answeredBy src t o (referenceLines src t)
 
@@ -116,7 +140,7 @@ referenceRoom = 16384
 abbrev pub roomRule : List TableRef → Rule
 roomRule refs = rule 7 (length refs) (ltb referenceRoom (length (listBytes referenceRow refs)))
 
--- the verdict on a table and a source of n bytes
+-- the verdict on a source and a table: document 01's order, with record 0 as the root
 unfoldable pub questionVerdict : List ℕ → List ℕ → Verdict
 questionVerdict src t = first (rootRules t (length src) 0 ++ roomRule (tableRefs src t 0) ∷ [])
 

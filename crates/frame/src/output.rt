@@ -24,7 +24,7 @@ ghost use Rattle.scope.specs.declared.scope.Enclosing.the-variants.{Record};
 ghost use Rattle.scope.specs.ScopeQuestions.{referenceBytes};
 ghost use Rattle.scope.specs.Statement.{enclosingAt};
 ghost use Rattle.frame.specs.Lines.{mostLines};
-ghost use Rattle.frame.specs.Output.{decimal, field, range, fields, ranges, printed, contextLine, statementLine, classLines, openerLines, refusalLine, answeredBy, replied};
+ghost use Rattle.frame.specs.Output.{letterT, decimal, field, range, fields, ranges, printed, contextLine, statementLine, classLines, openerLines, refusalLine, answeredBy, replied};
 ghost use Rattle.frame.specs.Steps.{Put, words, printedWords, lineRoom, mostReferences, textRoom};
 
 // How many bytes of room the lists have: the references as document 01 says, the others for an entry of each record.
@@ -257,7 +257,7 @@ fn put_answer(
     n: usize,
 ) -> usize
     requires { ⌜ (Admitted ≡ verdict (now table) (length (now source)) 0) × (count (now table) ≤ mostLines) × (n * referenceBytes ≤ length (now refs)) × (n ≤ mostReferences) × (textRoom ≤ length (now out)) ⌝ }
-    ensures { λ r. ⌜ Put (answeredBy (now (source .entry)) (now (table .entry)) offset (printedWords 84 1 7 (now (refs .entry)) 0 n)) (now (out .entry)) 0 (now (out .exit)) r × (r ≤ textRoom) ⌝ }
+    ensures { λ r. ⌜ Put (answeredBy (now (source .entry)) (now (table .entry)) offset (printedWords letterT 1 7 (now (refs .entry)) 0 n)) (now (out .entry)) 0 (now (out .exit)) r × (r ≤ textRoom) ⌝ }
 {
     let first = put_context(out, 0, table, source, offset);
     let second = put_statement(out, first, table, source, offset);
