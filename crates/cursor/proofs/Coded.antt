@@ -6,12 +6,12 @@ use mathlib.Core.Bool.{cond}
 use native.Mathlib.Omega.{arith}
 use borrow.Author.Tests.{ne-eqb}
 use lib.Dec.{eqb}
-use Rattle.cursor.specs.declared.cursor_context.Range.{Range}
-use Rattle.cursor.specs.declared.cursor_context.Name.{Name}
-use Rattle.cursor.specs.declared.cursor_context.Name.the-variants.{Nameless, Named}
-use Rattle.cursor.specs.declared.cursor_context.CursorContext.{CursorContext}
-use Rattle.cursor.specs.declared.cursor_context.CursorContext.the-variants.{SelectExpression, TableReference, ColumnOfTable, Expression, SettingName, EngineName, FormatName, DataType, CodecName, FunctionArgument, StatementStart, Unknown}
-use Rattle.cursor.specs.declared.context_code.Coded.{Coded}
+use Rattle.table.specs.declared.range.Range.{Range}
+use Rattle.tokens.specs.declared.last_token.Name.{Name}
+use Rattle.tokens.specs.declared.last_token.Name.the-variants.{Nameless, Named}
+use Rattle.cursor.specs.declared.context.CursorContext.{CursorContext}
+use Rattle.cursor.specs.declared.context.CursorContext.the-variants.{SelectExpression, TableReference, ColumnOfTable, Expression, SettingName, EngineName, FormatName, DataType, CodecName, FunctionArgument, StatementStart, Unknown}
+use Rattle.cursor.specs.declared.context.Coded.{Coded}
 use Rattle.cursor.specs.Context.{rangeOf, referenceNumber, coded, Starts, Ranged}
 
 -- the context that has this number and these values

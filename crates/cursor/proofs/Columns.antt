@@ -1,11 +1,11 @@
 -- A column, where the reading is dotted.
 -- Assumes nothing.
 use mathlib.Core.Path.{_≡_, refl}
-use Rattle.cursor.specs.declared.cursor_context.Range.{Range}
-use Rattle.cursor.specs.declared.cursor_context.Name.{Name}
-use Rattle.cursor.specs.declared.cursor_context.Name.the-variants.{Nameless, Named}
-use Rattle.cursor.specs.declared.cursor_context.CursorContext.{CursorContext}
-use Rattle.cursor.specs.declared.cursor_context.CursorContext.the-variants.{ColumnOfTable}
+use Rattle.table.specs.declared.range.Range.{Range}
+use Rattle.tokens.specs.declared.last_token.Name.{Name}
+use Rattle.tokens.specs.declared.last_token.Name.the-variants.{Nameless, Named}
+use Rattle.cursor.specs.declared.context.CursorContext.{CursorContext}
+use Rattle.cursor.specs.declared.context.CursorContext.the-variants.{ColumnOfTable}
 use Rattle.cursor.specs.PathRules.{columnOr}
 
 pub column-none : {n : Name} {other : CursorContext} → n ≡ Nameless → other ≡ columnOr other n

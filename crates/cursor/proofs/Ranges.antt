@@ -15,25 +15,26 @@ use Rattle.table.specs.declared.record.Rec.{Rec}
 use Rattle.table.specs.declared.check.Verdict.the-variants.{Admitted}
 use Rattle.table.specs.Kinds.{lastNode, file, bareWord, openingRound, identifier, selectClause, fromClause, prewhereClause, whereClause, groupByClause, havingClause, orderByClause, settingsClause, formatClause, joinConstraint}
 use Rattle.table.specs.Table.{count, kindAt, startAt, recordAt, run, from}
-use Rattle.table.specs.Forest.{Forest, nil, token, node, level, kids}
+use Rattle.table.specs.Forest.{Forest, nil, token, node, level, kids, inside}
 use Rattle.table.specs.Rules.{verdict}
 use Rattle.table.specs.Sense.{Tidy}
 use Rattle.table.proofs.Laws.{lt-or-le, node-or-token, level-shallow, level-deep, level-token, level-node, from-end}
 use Rattle.table.proofs.Sense.{admitted-tidy}
-use Rattle.cursor.specs.declared.cursor_context.Name.{Name}
-use Rattle.cursor.specs.declared.cursor_context.Name.the-variants.{Nameless, Named}
-use Rattle.cursor.specs.declared.cursor_context.CursorContext.{CursorContext}
-use Rattle.cursor.specs.declared.cursor_context.CursorContext.the-variants.{Expression, SelectExpression, StatementStart, Unknown}
-use Rattle.cursor.specs.declared.cursor_context.Answer.{Answer}
-use Rattle.cursor.specs.declared.cursor_context.Answer.the-variants.{GoOn, Given}
-use Rattle.cursor.specs.declared.cursor_context.Clause.{Clause}
-use Rattle.cursor.specs.declared.cursor_context.Clause.the-variants.{NoClause, Ends}
-use Rattle.cursor.specs.Path.{pathAt, inside, oneOf, deepest, onPath}
-use Rattle.cursor.specs.LastToken.{named, lastTwo, dotted, isJoinWord}
-use Rattle.cursor.specs.Function.{bareWordIn, orName, functionName, arguments}
-use Rattle.cursor.specs.Trailing.{isStatement, lastClause, pastClause, pastEnd, trailingIn, trailingRule}
+use Rattle.tokens.specs.declared.last_token.Name.{Name}
+use Rattle.tokens.specs.declared.last_token.Name.the-variants.{Nameless, Named}
+use Rattle.cursor.specs.declared.context.CursorContext.{CursorContext}
+use Rattle.cursor.specs.declared.context.CursorContext.the-variants.{Expression, SelectExpression, StatementStart, Unknown}
+use Rattle.cursor.specs.declared.context.Answer.{Answer}
+use Rattle.cursor.specs.declared.context.Answer.the-variants.{GoOn, Given}
+use Rattle.cursor.specs.declared.trailing.Clause.{Clause}
+use Rattle.cursor.specs.declared.trailing.Clause.the-variants.{NoClause, Ends}
+use Rattle.path.specs.Path.{pathAt, oneOf, deepest, onPath, isStatement}
+use Rattle.tokens.specs.LastToken.{named, lastTwo, dotted, isJoinWord}
+use Rattle.tokens.specs.Function.{bareWordIn, orName, functionName, arguments}
+use Rattle.cursor.specs.Trailing.{lastClause, pastClause, pastEnd, trailingIn, trailingRule}
 use Rattle.cursor.specs.PathRules.{Rule, Seen, tableReference, joined, functionArgument, columnOr, column, pathRules, ruled, orElse, seen, byPath, pathRule}
-use Rattle.cursor.specs.Context.{startsAfter, lastRule, givenOr, contextAt, coded, Starts, Ranged}
+use Rattle.cursor.specs.CursorContext.{startsAfter, lastRule, givenOr, contextAt}
+use Rattle.cursor.specs.Context.{coded, Starts, Ranged}
 use Rattle.cursor.proofs.Coded.{tells-apart}
 
 -- ---- what holds of each token of a table holds of each token of its tree

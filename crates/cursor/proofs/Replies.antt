@@ -11,19 +11,18 @@ use Rattle.table.specs.declared.check.Verdict.{Verdict}
 use Rattle.table.specs.declared.check.Verdict.the-variants.{Admitted, Refused}
 use Rattle.table.specs.Kinds.{otherNode}
 use Rattle.table.specs.Table.{recordBytes, count, records}
-use Rattle.table.specs.Forest.{kids}
+use Rattle.table.specs.Forest.{kids, inside}
 use Rattle.table.specs.Rules.{verdict}
 use Rattle.table.proofs.Sense.{admitted-tidy}
-use Rattle.cursor.specs.declared.cursor_context.Gathered.{Gathered}
-use Rattle.cursor.specs.declared.cursor_context.CursorContext.{CursorContext}
-use Rattle.cursor.specs.declared.cursor_context.Answer.{Answer}
-use Rattle.cursor.specs.declared.cursor_context.Answer.the-variants.{GoOn, Given}
-use Rattle.cursor.specs.declared.cursor_context.ContextReply.{ContextReply}
-use Rattle.cursor.specs.declared.cursor_context.ContextReply.the-variants.{Context, Refused as Denied}
-use Rattle.cursor.specs.Path.{inside}
-use Rattle.cursor.specs.Context.{lastRule, givenOr, contextReply}
-use Rattle.cursor.specs.Steps.{trailingFrom, givenBy, ruledBy, analyzed}
-use Rattle.cursor.proofs.Walking.{rest-inside}
+use Rattle.path.specs.declared.gathered.Gathered.{Gathered}
+use Rattle.cursor.specs.declared.context.CursorContext.{CursorContext}
+use Rattle.cursor.specs.declared.context.Answer.{Answer}
+use Rattle.cursor.specs.declared.context.Answer.the-variants.{GoOn, Given}
+use Rattle.cursor.specs.declared.context.ContextReply.{ContextReply}
+use Rattle.cursor.specs.declared.context.ContextReply.the-variants.{Context, Refused as Denied}
+use Rattle.cursor.specs.CursorContext.{lastRule, givenOr, contextReply}
+use Rattle.cursor.specs.inner.Steps.{trailingFrom, givenBy, ruledBy, analyzed}
+use Rattle.table.proofs.Walking.{rest-inside}
 
 module _ (src t : List ℕ) (o : ℕ) (g : Gathered) {a : Answer} (e : a ≡ trailingFrom t o (g .statement)) where
   pub first-given : {x : CursorContext} → a ≡ Given x → x ≡ analyzed src t o g
@@ -58,7 +57,3 @@ pub given-is : (v : Verdict) (x : CursorContext) {y : CursorContext} → Context
 unfolding contextReply
 given-is Admitted x e = (refl, cc)
 given-is (Refused k d) x e = absurd (let z : _≡_ {A = ℕ} 0 1 = cc in omega arith)
-
--- an admitted table has a record, and few
-pub sized : (t : List ℕ) (n : ℕ) {v : Verdict} → v ≡ verdict t n 0 → v ≡ Admitted → (0 < count t) × (count t < 4294967296)
-sized t n e q = let y = admitted-tidy t n 0 (sym e ∙ q) in (y .some, omega (arith, y .few))

@@ -1,32 +1,32 @@
 -- What is gathered on the way down is what the rules need: the deepest node whose rule applies, the deepest statement, and is a
 -- JoinConstraint on the path.
 -- Assumes nothing.
-use Prim.Native.Nat.{ℕ, zero, suc, _+_}
+use Prim.Native.Nat.{ℕ}
 use mathlib.Core.Path.{_≡_, refl, sym, ap, _∙_}
-use mathlib.Core.Bool.{Bool, true, false, cond, _||_}
+use mathlib.Core.Bool.{Bool, true, false, cond}
 use mathlib.Core.List.{List, [], _∷_}
 use mathlib.Core.Option.{Option, none, some}
 use mathlib.Core.Logic.{⊎-elim}
-use native.Mathlib.Numerals.{add-one}
 use native.Mathlib.Omega.{arith}
-use borrow.Author.Tests.{eq-eqb, ne-eqb}
+use borrow.Author.Tests.{ne-eqb}
 use lib.Dec.{eqb}
 use Rattle.table.specs.declared.record.Rec.{Rec}
 use Rattle.table.specs.Kinds.{otherNode, joinConstraint}
-use Rattle.table.specs.Forest.{Forest}
+use Rattle.table.specs.Forest.{Forest, inside}
 use Rattle.table.specs.Descent.{along}
 use Rattle.table.proofs.Laws.{eq-or-not}
-use Rattle.cursor.specs.declared.cursor_context.Next.{Next}
-use Rattle.cursor.specs.declared.cursor_context.Next.the-variants.{Deepest, Above}
-use Rattle.cursor.specs.declared.cursor_context.Gathered.{Gathered}
-use Rattle.cursor.specs.declared.cursor_context.CursorContext.{CursorContext}
-use Rattle.cursor.specs.declared.cursor_context.Answer.{Answer}
-use Rattle.cursor.specs.declared.cursor_context.Answer.the-variants.{GoOn, Given}
-use Rattle.cursor.specs.Path.{pathAt, inside, oneOf, deepestOr, deepest, onPath}
-use Rattle.cursor.specs.Trailing.{isStatement, trailingIn, trailingRule}
-use Rattle.cursor.specs.PathRules.{Rule, Seen, pathRules, ruled, orElse, nextOf, byPath, pathRule}
-use Rattle.cursor.specs.Context.{lastRule, givenOr, contextAt}
-use Rattle.cursor.specs.Steps.{applies, gives, decides, settled, stepped, nothing, gathered, trailingFrom, givenBy, ruledBy, analyzed}
+use Rattle.path.specs.declared.gathered.Next.{Next}
+use Rattle.path.specs.declared.gathered.Next.the-variants.{Deepest, Above}
+use Rattle.path.specs.declared.gathered.Gathered.{Gathered}
+use Rattle.cursor.specs.declared.context.Answer.{Answer}
+use Rattle.cursor.specs.declared.context.Answer.the-variants.{GoOn, Given}
+use Rattle.path.specs.Path.{pathAt, oneOf, deepest, onPath, isStatement, nextOf}
+use Rattle.cursor.specs.Trailing.{trailingIn}
+use Rattle.cursor.specs.PathRules.{Rule, Seen, pathRules, ruled, orElse, byPath}
+use Rattle.cursor.specs.CursorContext.{contextAt}
+use Rattle.cursor.specs.inner.Steps.{applies, gives, trailingFrom, givenBy, ruledBy, analyzed}
+use Rattle.path.specs.inner.Gathered.{decides, settled, stepped, nothing, gathered}
+use Rattle.path.proofs.Gathers.{numbered, gathered-statement, gathered-constrained}
 
 -- ---- one node
 
@@ -106,53 +106,10 @@ module _ (src t : List ℕ) (o : ℕ) (c : Bool) where
   path-ruled [] = refl
   path-ruled (r ∷ l) = sym (else-none (byPath src t o c (r ∷ l))) ∙ path-told l r (step nothing r) refl refl
 
--- ---- the deepest statement, and the JoinConstraint
-
-or-assoc : (a b c : Bool) → ((a || b) || c) ≡ (a || (b || c))
-or-assoc true b c = refl
-or-assoc false b c = refl
-
-or-none : (a : Bool) → (a || false) ≡ a
-or-none true = refl
-or-none false = refl
-
-along-constrained : (l : List Rec) (g : Gathered) → along (λ g r. stepped g (r .kind) (r .index)) g l .constrained ≡ (g .constrained || onPath joinConstraint l)
-unfolding along onPath stepped settled
-along-constrained [] g = sym (or-none (g .constrained))
-along-constrained (r ∷ l) g = along-constrained l _ ∙ (or-assoc (g .constrained) (eqb (r .kind) joinConstraint) (onPath joinConstraint l))
-
--- a node's number plus one, 0 for none
-unfoldable pub numbered : Option Rec → ℕ
-numbered none = 0
-numbered (some r) = suc (r .index)
-
--- the deepest node that passes a test, as a number of what is gathered
-module _ (test : ℕ → Bool) (field : Gathered → ℕ)
-    (steps : (g : Gathered) (r : Rec) → field (stepped g (r .kind) (r .index)) ≡ cond (test (r .kind)) (r .index + 1) (field g)) where
-  pub along-deepest : (l : List Rec) (g : Gathered) (best : Option Rec) → field g ≡ numbered best
-      → field (along (λ g r. stepped g (r .kind) (r .index)) g l) ≡ numbered (deepestOr best test l)
-  unfolding along deepestOr
-  along-deepest [] g best e = e
-  along-deepest (r ∷ l) g best e = along-deepest l _ _ (steps g r ∙ go (test (r .kind)))
-    where
-      go : (b : Bool) → cond b (r .index + 1) (field g) ≡ numbered (cond b (some r) best)
-      go true = unfold numbered in add-one (r .index)
-      go false = e
-
-pub gathered-statement : (p : List Rec) → gathered p .statement ≡ numbered (deepest isStatement p)
-unfolding gathered settled stepped numbered
-gathered-statement p = along-deepest isStatement (λ g. g .statement) (λ g r. refl) p nothing none refl
-
 trailing-numbered : (t : List ℕ) (o : ℕ) (b : Option Rec) → trailingFrom t o (numbered b) ≡ trailingIn t o b
 unfolding trailingFrom trailingIn numbered
 trailing-numbered t o none = refl
 trailing-numbered t o (some r) = refl
-
--- ---- the context
-
-gathered-constrained : (p : List Rec) → gathered p .constrained ≡ onPath joinConstraint p
-unfolding gathered settled
-gathered-constrained p = along-constrained p nothing
 
 pub analyzed-context : (src t : List ℕ) (o : ℕ) → analyzed src t o (gathered (pathAt t o)) ≡ contextAt src t o
 unfolding analyzed contextAt ruledBy

@@ -1,58 +1,12 @@
--- Document 01, Cursor: the context at an offset, "Last", and the numbers of the contexts.
+-- Document 01, "Worked by hand": the numbers and values of the contexts.
 -- Definitions only.
 use Prim.Native.Nat.{ℕ, _<_}
-use mathlib.Core.Bool.{Bool, true, cond, _&&_}
-use mathlib.Core.List.{List}
-use lib.Dec.{eqb}
-use Rattle.table.specs.declared.record.Rec.{Rec}
-use Rattle.table.specs.declared.check.Verdict.{Verdict}
-use Rattle.table.specs.declared.check.Verdict.the-variants.{Admitted, Refused}
-use Rattle.table.specs.Kinds.{file}
-use Rattle.table.specs.Table.{kindAt}
-use Rattle.table.specs.Forest.{Forest}
-use Rattle.cursor.specs.declared.cursor_context.Range.{Range}
-use Rattle.cursor.specs.declared.cursor_context.Name.{Name}
-use Rattle.cursor.specs.declared.cursor_context.Name.the-variants.{Nameless, Named}
-use Rattle.cursor.specs.declared.cursor_context.CursorContext.{CursorContext}
-use Rattle.cursor.specs.declared.cursor_context.CursorContext.the-variants.{SelectExpression, TableReference, ColumnOfTable, Expression, SettingName, EngineName, FormatName, DataType, CodecName, FunctionArgument, StatementStart, Unknown}
-use Rattle.cursor.specs.declared.context_code.Coded.{Coded}
-use Rattle.cursor.specs.declared.cursor_context.Answer.{Answer}
-use Rattle.cursor.specs.declared.cursor_context.Answer.the-variants.{GoOn, Given}
-use Rattle.cursor.specs.declared.cursor_context.ContextReply.{ContextReply}
-use Rattle.cursor.specs.declared.cursor_context.ContextReply.the-variants.{Context, Refused as Denied}
-use Rattle.cursor.specs.Path.{pathAt, inside}
-use Rattle.cursor.specs.LastToken.{lastTwo, isText, semicolon}
-use Rattle.cursor.specs.Trailing.{trailingRule}
-use Rattle.cursor.specs.PathRules.{pathRule}
-
--- ---- the last rule
-
--- there is no such token, or its text is `;`
-unfoldable pub startsAfter : List ℕ → Name → Bool
-startsAfter src Nameless = true
-startsAfter src (Named r) = isText semicolon src (Named r)
-
--- rule 14: if record 0 is File and its last token is `;` or there is none, StatementStart; else Unknown
-unfoldable pub lastRule : List ℕ → List ℕ → ℕ → CursorContext
-lastRule src t o = cond (eqb (kindAt t 0) file && startsAfter src (lastTwo o (inside t 0) .last)) StatementStart Unknown
-
--- ---- the context
-
--- what an answer gives, or where it goes on the other
-unfoldable pub givenOr : CursorContext → Answer → CursorContext
-givenOr other GoOn = other
-givenOr other (Given c) = c
-
--- rule 1, then 2 to 13, then 14
-unfoldable pub contextAt : List ℕ → List ℕ → ℕ → CursorContext
-contextAt src t o =
-    let p : List Rec = pathAt t o in
-    givenOr (givenOr (lastRule src t o) (pathRule src t o p)) (trailingRule t o p)
-
--- the reply to the question: refused, or the context
-unfoldable pub contextReply : Verdict → CursorContext → ContextReply
-contextReply Admitted c = Context c
-contextReply (Refused k d) c = Denied k d
+use Rattle.table.specs.declared.range.Range.{Range}
+use Rattle.tokens.specs.declared.last_token.Name.{Name}
+use Rattle.tokens.specs.declared.last_token.Name.the-variants.{Nameless, Named}
+use Rattle.cursor.specs.declared.context.CursorContext.{CursorContext}
+use Rattle.cursor.specs.declared.context.CursorContext.the-variants.{SelectExpression, TableReference, ColumnOfTable, Expression, SettingName, EngineName, FormatName, DataType, CodecName, FunctionArgument, StatementStart, Unknown}
+use Rattle.cursor.specs.declared.context.Coded.{Coded}
 
 -- ---- the numbers and values of the contexts
 

@@ -1,23 +1,22 @@
 -- Document 01, Cursor, "Then path nodes, deepest first": one rule for each of its lines, in its order.
 -- Definitions only.
 use Prim.Native.Nat.{ℕ}
-use mathlib.Core.Bool.{Bool, true, false, cond, _&&_, _||_}
+use mathlib.Core.Bool.{Bool, true, cond, _||_}
 use mathlib.Core.List.{List, [], _∷_}
 use lib.Dec.{eqb}
 use Rattle.table.specs.declared.record.Rec.{Rec}
 use Rattle.table.specs.Kinds.{file, queryList, error, insertStatement, selectClause, fromClause, joinClause, prewhereClause, whereClause, groupByClause, havingClause, orderByClause, settingsClause, settingList, engineClause, formatClause, insertFormatClause, joinConstraint, tableIdentifier, columnDefinition, columnTypeDefinition, columnCodec, dataType, dataTypeParameters, functionCall, aggregateFunction}
-use Rattle.table.specs.Forest.{Forest}
-use Rattle.cursor.specs.declared.cursor_context.Name.{Name}
-use Rattle.cursor.specs.declared.cursor_context.Name.the-variants.{Nameless, Named}
-use Rattle.cursor.specs.declared.cursor_context.CursorContext.{CursorContext}
-use Rattle.cursor.specs.declared.cursor_context.CursorContext.the-variants.{SelectExpression, TableReference, ColumnOfTable, Expression, SettingName, EngineName, FormatName, DataType, CodecName, FunctionArgument, StatementStart}
-use Rattle.cursor.specs.declared.cursor_context.Answer.{Answer}
-use Rattle.cursor.specs.declared.cursor_context.Answer.the-variants.{GoOn, Given}
-use Rattle.cursor.specs.declared.cursor_context.Next.{Next}
-use Rattle.cursor.specs.declared.cursor_context.Next.the-variants.{Deepest, Above}
-use Rattle.cursor.specs.Path.{inside, oneOf, onPath}
-use Rattle.cursor.specs.LastToken.{lastTwo, dotted, isJoinWord}
-use Rattle.cursor.specs.Function.{functionName, arguments}
+use Rattle.table.specs.Forest.{Forest, inside}
+use Rattle.tokens.specs.declared.last_token.Name.{Name}
+use Rattle.tokens.specs.declared.last_token.Name.the-variants.{Nameless, Named}
+use Rattle.cursor.specs.declared.context.CursorContext.{CursorContext}
+use Rattle.cursor.specs.declared.context.CursorContext.the-variants.{SelectExpression, TableReference, ColumnOfTable, Expression, SettingName, EngineName, FormatName, DataType, CodecName, FunctionArgument, StatementStart}
+use Rattle.cursor.specs.declared.context.Answer.{Answer}
+use Rattle.cursor.specs.declared.context.Answer.the-variants.{GoOn, Given}
+use Rattle.path.specs.declared.gathered.Next.{Next}
+use Rattle.path.specs.Path.{oneOf, onPath, nextOf, isDeepest, deepestOver}
+use Rattle.tokens.specs.LastToken.{lastTwo, dotted, isJoinWord}
+use Rattle.tokens.specs.Function.{functionName, arguments}
 
 -- ---- what a rule looks at
 
@@ -27,21 +26,6 @@ pub record Seen : Type 0 where
   pub next : Next
   pub children : Forest
   pub constrained : Bool
-
--- what is next below a node, where these are the deeper nodes of the path
-unfoldable pub nextOf : List Rec → Next
-nextOf [] = Deepest
-nextOf (r ∷ rs) = Above (r .kind)
-
--- the node is deepest
-unfoldable pub isDeepest : Next → Bool
-isDeepest Deepest = true
-isDeepest (Above k) = false
-
--- the node is deepest, or a node of kind x is next below
-unfoldable pub deepestOver : ℕ → Next → Bool
-deepestOver x Deepest = true
-deepestOver x (Above k) = eqb k x
 
 -- ---- what a rule gives
 

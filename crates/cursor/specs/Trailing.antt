@@ -1,24 +1,20 @@
 -- Document 01, Cursor, "Trailing rule first": the offset may stand past the end of a statement's last clause.
 -- Definitions only.
 use Prim.Native.Nat.{ℕ}
-use mathlib.Core.Bool.{Bool, cond, _&&_}
+use mathlib.Core.Bool.{cond}
 use mathlib.Core.List.{List, [], _∷_}
 use mathlib.Core.Option.{Option, none, some}
 use lib.Dec.{leb, ltb, eqb}
 use Rattle.table.specs.declared.record.Rec.{Rec}
-use Rattle.table.specs.Kinds.{selectStatement, insertStatement, createStatement, alterStatement, deleteStatement, updateStatement, selectClause, fromClause, prewhereClause, whereClause, groupByClause, havingClause, orderByClause, settingsClause, formatClause}
-use Rattle.table.specs.Forest.{Forest, nil, token, node}
-use Rattle.cursor.specs.declared.cursor_context.Name.the-variants.{Nameless}
-use Rattle.cursor.specs.declared.cursor_context.CursorContext.the-variants.{SelectExpression, TableReference, Expression, SettingName, FormatName}
-use Rattle.cursor.specs.declared.cursor_context.Answer.{Answer}
-use Rattle.cursor.specs.declared.cursor_context.Answer.the-variants.{GoOn, Given}
-use Rattle.cursor.specs.declared.cursor_context.Clause.{Clause}
-use Rattle.cursor.specs.declared.cursor_context.Clause.the-variants.{NoClause, Ends}
-use Rattle.cursor.specs.Path.{inside, oneOf, deepest}
-
--- a statement of kinds 4 to 9
-abbrev pub isStatement : ℕ → Bool
-isStatement k = leb selectStatement k && leb k updateStatement
+use Rattle.table.specs.Kinds.{selectClause, fromClause, prewhereClause, whereClause, groupByClause, havingClause, orderByClause, settingsClause, formatClause}
+use Rattle.table.specs.Forest.{Forest, nil, token, node, inside}
+use Rattle.tokens.specs.declared.last_token.Name.the-variants.{Nameless}
+use Rattle.cursor.specs.declared.context.CursorContext.the-variants.{SelectExpression, TableReference, Expression, SettingName, FormatName}
+use Rattle.cursor.specs.declared.context.Answer.{Answer}
+use Rattle.cursor.specs.declared.context.Answer.the-variants.{GoOn, Given}
+use Rattle.cursor.specs.declared.trailing.Clause.{Clause}
+use Rattle.cursor.specs.declared.trailing.Clause.the-variants.{NoClause, Ends}
+use Rattle.path.specs.Path.{oneOf, deepest, isStatement}
 
 -- the last child node with start ≤ offset, where best is the last so far; empty nodes count
 unfoldable pub lastClause : ℕ → Clause → Forest → Clause

@@ -1,4 +1,5 @@
-// The answers at a cursor.
-pub mod context_code;
+// The context at the cursor.
+pub mod context;
 pub mod cursor_context;
-pub mod scope_at_cursor;
+pub mod path_rules;
+pub mod trailing;

@@ -11,9 +11,9 @@ use Rattle.table.specs.Kinds.{openingRound, openingSquare, openingCurly}
 use Rattle.table.specs.Table.{records}
 use Rattle.table.specs.Forest.{Forest, nil, token, node, kids}
 use Rattle.table.specs.Text.{bytesOf}
-use Rattle.scope.specs.declared.bracket_matching.Hint.the-variants.{Opener, NoOpener}
-use Rattle.scope.specs.Brackets.{fits, closed, stepped, left, stackLeft, indexOf, holding, lastOf, hintOf}
-use Rattle.cursor.specs.Path.{oneOf}
+use Rattle.brackets.specs.declared.bracket_matching.Hint.the-variants.{Opener, NoOpener}
+use Rattle.brackets.specs.Brackets.{fits, closed, stepped, left, stackLeft, indexOf, holding, lastOf, hintOf}
+use Rattle.path.specs.Path.{oneOf}
 use Rattle.demands.specs.Rust.{push, last, pop, find}
 use Rattle.demands.specs.BracketMatchingRs.{matches, popMatching, bracket, «collect_brackets», closer, findOpener, enrich, hint, BracketMatchingRs}
 use Rattle.demands.proofs.KindLists.{range-list}

@@ -13,35 +13,35 @@ use lib.ListN.{length}
 use Rattle.table.specs.declared.record.Rec.{Rec}
 use Rattle.table.specs.declared.check.Verdict.the-variants.{Admitted}
 use Rattle.table.specs.Table.{count, recordAt, records}
-use Rattle.table.specs.Forest.{Forest, nil, token, node, kids}
+use Rattle.table.specs.Forest.{Forest, nil, token, node, kids, inside}
 use Rattle.table.specs.Rules.{verdict}
 use Rattle.table.specs.Sense.{Tidy}
-use Rattle.table.specs.Scan.{Reading, fold, ofTokens}
+use Rattle.table.specs.inner.Scan.{Reading, fold, ofTokens}
 use Rattle.table.specs.Descent.{path as way, pathOf, along}
 use Rattle.table.specs.Text.{text, bytesOf}
 use Rattle.table.proofs.Laws.{lt-or-le, from-cons}
 use Rattle.table.proofs.Scans.{fold-tokens}
 use Rattle.table.proofs.Sense.{admitted-tidy}
-use Rattle.scope.specs.Statement.{holds}
-use Rattle.scope.proofs.Counts.{decide}
-use Rattle.cursor.specs.declared.cursor_context.Name.{Name}
-use Rattle.cursor.specs.declared.cursor_context.Name.the-variants.{Nameless, Named}
-use Rattle.cursor.specs.declared.cursor_context.LastTwo.{LastTwo}
-use Rattle.cursor.specs.declared.cursor_context.Arguments.{Arguments}
-use Rattle.cursor.specs.declared.cursor_context.Clause.{Clause}
-use Rattle.cursor.specs.declared.cursor_context.Clause.the-variants.{NoClause, Ends}
-use Rattle.cursor.specs.declared.cursor_context.Answer.{Answer}
-use Rattle.cursor.specs.declared.cursor_context.Answer.the-variants.{GoOn, Given}
-use Rattle.cursor.specs.declared.cursor_context.Next.{Next}
-use Rattle.cursor.specs.declared.cursor_context.Next.the-variants.{Deepest, Above}
-use Rattle.cursor.specs.declared.cursor_context.CursorContext.{CursorContext}
-use Rattle.cursor.specs.declared.cursor_context.CursorContext.the-variants.{SelectExpression, TableReference, Expression, SettingName, EngineName, FormatName, DataType, CodecName, StatementStart}
-use Rattle.cursor.specs.Path.{pathAt, inside, oneOf, deepestOr, deepest, onPath}
-use Rattle.cursor.specs.LastToken.{named, counted, entered, reading, lastOr, init, lastTwo, isText, dot, dotted, isJoinWord, isWord as isWordIn}
-use Rattle.cursor.specs.Function.{bareWordIn, orName, functionName, opens, argued, arguments}
-use Rattle.cursor.specs.Trailing.{isStatement, lastClause as lastClauseIn, pastClause as pastKind, pastEnd, trailingIn, trailingRule}
-use Rattle.cursor.specs.PathRules.{Seen, nextOf, isDeepest, deepestOver, tableReference, joined, functionArgument, columnOr, column, pathRules, ruled, orElse, seen, byPath, pathRule}
-use Rattle.cursor.specs.Context.{startsAfter, lastRule, givenOr, contextAt}
+use Rattle.table.specs.Ranges.{holds}
+use Rattle.roots.proofs.Counts.{decide}
+use Rattle.tokens.specs.declared.last_token.Name.{Name}
+use Rattle.tokens.specs.declared.last_token.Name.the-variants.{Nameless, Named}
+use Rattle.tokens.specs.declared.last_token.LastTwo.{LastTwo}
+use Rattle.tokens.specs.declared.function.Arguments.{Arguments}
+use Rattle.cursor.specs.declared.trailing.Clause.{Clause}
+use Rattle.cursor.specs.declared.trailing.Clause.the-variants.{NoClause, Ends}
+use Rattle.cursor.specs.declared.context.Answer.{Answer}
+use Rattle.cursor.specs.declared.context.Answer.the-variants.{GoOn, Given}
+use Rattle.path.specs.declared.gathered.Next.{Next}
+use Rattle.path.specs.declared.gathered.Next.the-variants.{Deepest, Above}
+use Rattle.cursor.specs.declared.context.CursorContext.{CursorContext}
+use Rattle.cursor.specs.declared.context.CursorContext.the-variants.{SelectExpression, TableReference, Expression, SettingName, EngineName, FormatName, DataType, CodecName, StatementStart}
+use Rattle.path.specs.Path.{pathAt, oneOf, deepestOr, deepest, onPath, isStatement, nextOf, isDeepest, deepestOver}
+use Rattle.tokens.specs.LastToken.{named, counted, entered, reading, lastOr, init, lastTwo, isText, dot, dotted, isJoinWord, isWord as isWordIn}
+use Rattle.tokens.specs.Function.{bareWordIn, orName, functionName, opens, argued, arguments}
+use Rattle.cursor.specs.Trailing.{lastClause as lastClauseIn, pastClause as pastKind, pastEnd, trailingIn, trailingRule}
+use Rattle.cursor.specs.PathRules.{Seen, tableReference, joined, functionArgument, columnOr, column, pathRules, ruled, orElse, seen, byPath, pathRule}
+use Rattle.cursor.specs.CursorContext.{startsAfter, lastRule, givenOr, contextAt}
 use Rattle.demands.specs.Rust.{push, find}
 use Rattle.demands.specs.CursorContextRs.{textOf, returnOr, PathNode, descend, «find_node_path», Before, skipped, «token_before_impl», «token_before_offset», isWord, saysWord, Prev, «find_ident_before_dot_impl», beforeDot, «find_identifier_before_dot», «table_ref_or_dot», columnOf, «check_dot_access», firstBareWord, «extract_function_name», Commas, «count_commas_impl», «count_commas_before», isStatementLike, lastClause, trailing, pastClause, trailingOf, «check_trailing_clause», isLast, isLastOr, met, joinArm, arm, ancestors, startsNext, fallback, «analyze_path», «cursor_context», nameOf, CursorContextRs}
 use Rattle.demands.proofs.KindLists.{range-list}

@@ -1,6 +1,6 @@
 -- Demand 3, from where it is proved.
 -- Assumes nothing.
-use Rattle.scope.proofs.AllRoots.{all-roots}
+use Rattle.roots.proofs.AllRoots.{all-roots}
 use Rattle.demands.specs.Demand3.{Demand3}
 
 pub demand-3 : Demand3

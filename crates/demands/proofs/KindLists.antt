@@ -9,7 +9,7 @@ use native.Mathlib.Omega.{arith}
 use borrow.Author.Tests.{le-leb, lt-leb, eq-eqb, ne-eqb}
 use lib.Dec.{leb}
 use Rattle.table.proofs.Laws.{lt-or-le}
-use Rattle.cursor.specs.Path.{oneOf}
+use Rattle.path.specs.Path.{oneOf}
 
 -- n kinds from a on
 abbrev pub kindsFrom : ℕ → ℕ → List ℕ

@@ -24,12 +24,12 @@ use Rattle.table.specs.Lists.{listBytes, roomRule, listVerdict, reply, buffer, 
 use Rattle.table.specs.Exactly.{Broken, broken-1, broken-2, broken-3, broken-4, broken-5, broken-6, place, Least}
 use Rattle.table.proofs.Texts.{both}
 use Rattle.table.proofs.Exactly.{clash, refused-exactly, admitted-exactly}
-use Rattle.scope.specs.declared.bracket_matching.Hint.{Hint}
-use Rattle.scope.specs.Brackets.{hinted}
-use Rattle.scope.specs.declared.scope.Enclosing.{Enclosing}
-use Rattle.scope.specs.declared.scope.Enclosing.the-variants.{Outside, Record}
-use Rattle.scope.specs.Statement.{told, statementReply}
-use Rattle.cursor.specs.Root.{rootReply}
+use Rattle.brackets.specs.declared.bracket_matching.Hint.{Hint}
+use Rattle.brackets.specs.Brackets.{hinted}
+use Rattle.statement.specs.declared.statement.Enclosing.{Enclosing}
+use Rattle.statement.specs.declared.statement.Enclosing.the-variants.{Outside, Record}
+use Rattle.statement.specs.Statement.{told, statementReply}
+use Rattle.offers.specs.Root.{rootReply}
 use Rattle.desk.specs.Reply.{packed, answered, verdictReply, listReply, hintRecord, hintReply, statementNumber, rootNumber}
 use Rattle.demands.specs.declared.Question.{Question}
 use Rattle.demands.specs.Questions.{Asked, Said, number, Matter, plain, ofRoot, list, statementRecord, matter, answerOf, saidBytes, written}

@@ -15,19 +15,22 @@ use Rattle.table.specs.Table.{recordAt, records}
 use Rattle.table.specs.Forest.{Forest, nil, token, node, kids}
 use Rattle.table.proofs.Laws.{lt-or-le}
 use Rattle.table.proofs.Texts.{both}
-use Rattle.scope.specs.declared.scope.Range.{Range}
-use Rattle.scope.specs.declared.scope.NameBinding.{NameBinding}
-use Rattle.scope.specs.declared.scope.TableRef.{TableRef}
-use Rattle.scope.specs.declared.scope.Bound.{Bound}
-use Rattle.scope.specs.declared.scope.Bound.the-variants.{Unnamed, Named}
-use Rattle.scope.specs.declared.scope.Pending.{Pending}
-use Rattle.scope.specs.declared.scope.Pending.the-variants.{Nothing, Held}
-use Rattle.scope.specs.declared.scope.Enclosing.{Enclosing}
-use Rattle.scope.specs.declared.scope.Enclosing.the-variants.{Outside, Record}
-use Rattle.scope.specs.Names.{span, byteAt, isAs, isPart, isName, direct, unquoted, nameOf, firstOf, lastOf, withItem, aliasIn, binding as bind}
-use Rattle.scope.specs.Scope.{entered, collected, collection, entry, gathered, withItems, selectAliases, fresh, aliased, Listing, handOn, listAlias, reading, references, aliases, ownWith, ownColumns, ownTables}
-use Rattle.scope.specs.Statement.{holds, itself, isStatement, orElse, firstFind, enclosingAt}
-use Rattle.scope.proofs.Counts.{decide}
+use Rattle.table.specs.declared.range.Range.{Range}
+use Rattle.names.specs.declared.names.NameBinding.{NameBinding}
+use Rattle.tables.specs.declared.pending.TableRef.{TableRef}
+use Rattle.names.specs.declared.names.Bound.{Bound}
+use Rattle.names.specs.declared.names.Bound.the-variants.{Unnamed, Named}
+use Rattle.tables.specs.declared.pending.Pending.{Pending}
+use Rattle.tables.specs.declared.pending.Pending.the-variants.{Nothing, Held}
+use Rattle.statement.specs.declared.statement.Enclosing.{Enclosing}
+use Rattle.statement.specs.declared.statement.Enclosing.the-variants.{Outside, Record}
+use Rattle.table.specs.Ranges.{span, holds}
+use Rattle.names.specs.Names.{byteAt, isAs, isPart, isName, direct, unquoted, nameOf, firstOf, lastOf, withItem, aliasIn, binding as bind}
+use Rattle.scope.specs.Collection.{entered, collected, collection, ownWith, ownColumns, ownTables}
+use Rattle.names.specs.Bindings.{entry, gathered, withItems, selectAliases}
+use Rattle.tables.specs.Tables.{fresh, aliased, Listing, handOn, listAlias, reading, references, aliases}
+use Rattle.statement.specs.Statement.{itself, isStatement, orElse, firstFind, enclosingAt}
+use Rattle.roots.proofs.Counts.{decide}
 use Rattle.demands.specs.Rust.{push}
 use Rattle.demands.specs.ScopeRs.{Str, at, stopsAt, Binding, Reference, QueryScope, pushCte, pushTableAlias, pushColumnAlias, pushTableRef, startsWith, endsWith, inner, unquote, saysAs, bindingOf, «extract_cte», Ident, «extract_alias_name», parts, byParts, «extract_table_identifier», pushIfCte, «collect_ctes», flush, setAlias, pushAlias, «collect_table_refs», pushIfAlias, «collect_column_aliases», arms, eachChild, «collect_scope», «build_scope», isStatementKind, orReturn, enclosing, deeperStatement, rangeOf, rangeOr, binding, reference, found, Lone, ScopeRs}
 use Rattle.demands.proofs.KindLists.{range-list}

@@ -20,11 +20,11 @@ use Rattle.table.specs.Text.{text}
 use Rattle.scope.specs.declared.semantic_tokens.TokenClass.{TokenClass}
 use Rattle.scope.specs.declared.semantic_tokens.TokenClass.the-variants.{Keyword, Function, StringLiteral, Number, Comment, Operator, Variable, TypeName, Parameter, Property, Unclassed}
 use Rattle.scope.specs.declared.semantic_tokens.ClassedToken.{ClassedToken}
-use Rattle.scope.specs.Keywords.{isKeyword}
+use Rattle.keywords.specs.Keywords.{isKeyword}
 use Rattle.scope.specs.Classes.{classesOf, between, judged, bareword, byParent, classOf, numberOf, entryOf, classes}
 use Rattle.table.proofs.Sense.{admitted-tidy, whole-tree}
-use Rattle.scope.proofs.KeywordLaws.{not-keyword}
-use Rattle.cursor.specs.Path.{oneOf}
+use Rattle.keywords.proofs.KeywordLaws.{not-keyword}
+use Rattle.path.specs.Path.{oneOf}
 use Rattle.demands.specs.SemanticTokensRs.{«is_keyword», «classify_identifier_by_parent», tables, «classify_bareword», operators, «classify_token», pushClass, «collect_tokens», insert, sortByStart, compute, SemanticTokensRs}
 use Rattle.demands.proofs.KindLists.{kindsFrom, range-list}
 use Rattle.demands.proofs.Starts.{later}

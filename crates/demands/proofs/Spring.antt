@@ -2,7 +2,7 @@
 -- Assumes nothing.
 use Prim.Native.Nat.{ℕ}
 use mathlib.Core.List.{List}
-use Rattle.cursor.proofs.Offers.{offered-with, offered-aliases, offered-columns, offered-refs}
+use Rattle.roots.proofs.Offered.{offered-with, offered-aliases, offered-columns, offered-refs}
 use Rattle.demands.specs.Spring.{Spring}
 
 pub spring : (src t : List ℕ) (o : ℕ) → Spring src t o

@@ -11,10 +11,10 @@ use Rattle.table.specs.Kinds.{openingRound, openingSquare, openingCurly, closin
 use Rattle.table.specs.Table.{records}
 use Rattle.table.specs.Forest.{Forest, nil, token, node, kids}
 use Rattle.table.specs.Text.{bytesOf}
-use Rattle.scope.specs.declared.bracket_matching.Hint.{Hint}
-use Rattle.scope.specs.declared.bracket_matching.Hint.the-variants.{Opener, NoOpener}
-use Rattle.scope.specs.Brackets.{holding, indexOf, openersLeft, stackLeft, hintOf}
-use Rattle.cursor.specs.Path.{oneOf}
+use Rattle.brackets.specs.declared.bracket_matching.Hint.{Hint}
+use Rattle.brackets.specs.declared.bracket_matching.Hint.the-variants.{Opener, NoOpener}
+use Rattle.brackets.specs.Brackets.{holding, indexOf, openersLeft, stackLeft, hintOf}
+use Rattle.path.specs.Path.{oneOf}
 use Rattle.demands.specs.Rust.{push, last, pop, find}
 
 -- struct BracketInfo: the token's record, which has its kind and its range

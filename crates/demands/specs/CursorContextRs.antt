@@ -9,17 +9,17 @@ use lib.Dec.{leb, ltb, eqb}
 use Rattle.table.specs.declared.record.Rec.{Rec}
 use Rattle.table.specs.Kinds.{file, queryList, error, selectStatement, insertStatement, createStatement, alterStatement, deleteStatement, updateStatement, selectClause, fromClause, joinClause, prewhereClause, whereClause, groupByClause, havingClause, orderByClause, settingsClause, settingList, engineClause, formatClause, insertFormatClause, joinConstraint, tableIdentifier, columnDefinition, columnTypeDefinition, columnCodec, dataType, dataTypeParameters, functionCall, aggregateFunction, identifier, whitespace, comment, bareWord, comma, openingRound}
 use Rattle.table.specs.Table.{recordAt, records}
-use Rattle.table.specs.Forest.{Forest, nil, token, node, kids}
+use Rattle.table.specs.Forest.{Forest, nil, token, node, kids, inside}
 use Rattle.table.specs.Text.{text, bytesOf, same, says}
-use Rattle.cursor.specs.declared.cursor_context.Range.{Range}
-use Rattle.cursor.specs.declared.cursor_context.Name.{Name}
-use Rattle.cursor.specs.declared.cursor_context.Name.the-variants.{Nameless, Named}
-use Rattle.cursor.specs.declared.cursor_context.CursorContext.{CursorContext}
-use Rattle.cursor.specs.declared.cursor_context.CursorContext.the-variants.{SelectExpression, TableReference, ColumnOfTable, Expression, SettingName, EngineName, FormatName, DataType, CodecName, FunctionArgument, StatementStart, Unknown}
-use Rattle.cursor.specs.Path.{pathAt, inside, oneOf}
-use Rattle.cursor.specs.LastToken.{lastTwo, dotted}
-use Rattle.cursor.specs.Function.{functionName, arguments}
-use Rattle.cursor.specs.Context.{contextAt}
+use Rattle.table.specs.declared.range.Range.{Range}
+use Rattle.tokens.specs.declared.last_token.Name.{Name}
+use Rattle.tokens.specs.declared.last_token.Name.the-variants.{Nameless, Named}
+use Rattle.cursor.specs.declared.context.CursorContext.{CursorContext}
+use Rattle.cursor.specs.declared.context.CursorContext.the-variants.{SelectExpression, TableReference, ColumnOfTable, Expression, SettingName, EngineName, FormatName, DataType, CodecName, FunctionArgument, StatementStart, Unknown}
+use Rattle.path.specs.Path.{pathAt, oneOf}
+use Rattle.tokens.specs.LastToken.{lastTwo, dotted}
+use Rattle.tokens.specs.Function.{functionName, arguments}
+use Rattle.cursor.specs.CursorContext.{contextAt}
 use Rattle.demands.specs.Rust.{push, find}
 
 -- enum CursorContext is the library's own, whose `Name` is an `Option<String>`; a function without a name has none for the Rust's empty one

@@ -9,7 +9,7 @@ use mathlib.Core.List.{List}
 use lib.ListN.{length}
 use Rattle.table.specs.declared.check.Verdict.the-variants.{Admitted}
 use Rattle.table.specs.Rules.{verdict}
-use Rattle.scope.specs.AllRoots.{Served, AllRoots}
+use Rattle.roots.specs.AllRoots.{Served, AllRoots}
 
 -- of every admitted table, whatever was in the lent buffers before
 abbrev pub Demand3 : Type 0

@@ -5,14 +5,16 @@ use mathlib.Core.List.{List, [], _∷_, _++_, map}
 use mathlib.Core.Option.{Option, none, some}
 use lib.ListN.{length, drop}
 use Rattle.table.specs.Lists.{listBytes}
-use Rattle.scope.specs.declared.scope.Enclosing.{Enclosing}
-use Rattle.scope.specs.declared.scope.Enclosing.the-variants.{Outside, Record}
+use Rattle.statement.specs.declared.statement.Enclosing.{Enclosing}
+use Rattle.statement.specs.declared.statement.Enclosing.the-variants.{Outside, Record}
 use Rattle.scope.specs.Classes.{classesOf, row as classRow}
-use Rattle.scope.specs.Brackets.{openersLeft, stackLeft, hintOf, row as openerRow}
-use Rattle.scope.specs.ScopeQuestions.{withNames, tableAliases, columnAliases, tableRefs, bindingRow, referenceRow}
-use Rattle.scope.specs.Statement.{enclosingAt}
-use Rattle.cursor.specs.Context.{contextAt}
-use Rattle.cursor.specs.Root.{rootAt}
+use Rattle.brackets.specs.Brackets.{openersLeft, stackLeft, hintOf, row as openerRow}
+use Rattle.scope.specs.Scope.{withNames, tableAliases, columnAliases, tableRefs}
+use Rattle.names.specs.Bindings.{bindingRow}
+use Rattle.tables.specs.Tables.{referenceRow}
+use Rattle.statement.specs.Statement.{enclosingAt}
+use Rattle.cursor.specs.CursorContext.{contextAt}
+use Rattle.offers.specs.Root.{rootAt}
 use Rattle.desk.specs.Reply.{none as nothing, hintRecord, contextRow}
 use Rattle.demands.specs.declared.Question.{Question}
 use Rattle.demands.specs.declared.Question.the-variants.{Check, TokenClasses, OpenersLeft, BracketHint, WithNames, TableAliases, ColumnAliases, TableRefs, CursorContext, EnclosingStatement, CursorRoot, WithNamesAt, TableAliasesAt, ColumnAliasesAt, TableRefsAt}

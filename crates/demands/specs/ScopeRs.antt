@@ -12,15 +12,16 @@ use Rattle.table.specs.Kinds.{selectStatement, insertStatement, createStatement
 use Rattle.table.specs.Table.{recordAt, records, part}
 use Rattle.table.specs.Forest.{Forest, nil, token, node, kids, stretchEnd}
 use Rattle.table.specs.Text.{bytesOf, text, says}
-use Rattle.scope.specs.declared.scope.Range.{Range}
-use Rattle.scope.specs.declared.scope.NameBinding.{NameBinding}
-use Rattle.scope.specs.declared.scope.TableRef.{TableRef}
-use Rattle.scope.specs.declared.scope.Enclosing.{Enclosing}
-use Rattle.scope.specs.declared.scope.Enclosing.the-variants.{Outside, Record}
-use Rattle.scope.specs.Names.{absent, span, byteAt, isMark}
-use Rattle.scope.specs.ScopeQuestions.{withNames, tableAliases, columnAliases, tableRefs}
-use Rattle.scope.specs.Statement.{enclosingAt}
-use Rattle.cursor.specs.Path.{oneOf}
+use Rattle.table.specs.declared.range.Range.{Range}
+use Rattle.names.specs.declared.names.NameBinding.{NameBinding}
+use Rattle.tables.specs.declared.pending.TableRef.{TableRef}
+use Rattle.statement.specs.declared.statement.Enclosing.{Enclosing}
+use Rattle.statement.specs.declared.statement.Enclosing.the-variants.{Outside, Record}
+use Rattle.table.specs.Ranges.{absent, span}
+use Rattle.names.specs.Names.{byteAt, isMark}
+use Rattle.scope.specs.Scope.{withNames, tableAliases, columnAliases, tableRefs}
+use Rattle.statement.specs.Statement.{enclosingAt}
+use Rattle.path.specs.Path.{oneOf}
 use Rattle.demands.specs.Rust.{push}
 
 -- ---- the types

@@ -15,9 +15,9 @@ use Rattle.table.specs.Forest.{Forest, nil, token, node, kids}
 use Rattle.table.specs.Rules.{verdict}
 use Rattle.table.specs.Text.{bytesOf, upperWord, text}
 use Rattle.scope.specs.declared.semantic_tokens.ClassedToken.{ClassedToken}
-use Rattle.scope.specs.Keywords.{keywords, elem}
+use Rattle.keywords.specs.Keywords.{keywords, elem}
 use Rattle.scope.specs.Classes.{classesOf}
-use Rattle.cursor.specs.Path.{oneOf}
+use Rattle.path.specs.Path.{oneOf}
 use Rattle.demands.specs.Rust.{push}
 
 -- ---- the constants, and document 01's numbers

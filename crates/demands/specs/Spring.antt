@@ -11,21 +11,23 @@ use Rattle.table.specs.Kinds.{file, selectStatement, selectClause, fromClause, 
 use Rattle.table.specs.Table.{word, recordAt, run, from, records, part}
 use Rattle.table.specs.Forest.{Forest, level, kids, extent, stretchEnd}
 use Rattle.table.specs.Descent.{path, pathOf, along}
-use Rattle.table.specs.Scan.{tokensOf, only}
+use Rattle.table.specs.Tokens.{tokensOf, only}
 use Rattle.table.specs.Rules.{rulesFrom, misplaced, lastEnd, badSpan, verdict}
 use Rattle.table.specs.Text.{bytesOf, upper, text, says}
-use Rattle.table.specs.Worked.{rec}
-use Rattle.scope.specs.Names.{isAs, isPart, isName, direct, unquoted, nameOf, binding, lastOf}
-use Rattle.scope.specs.Scope.{entered, collected, collection, fresh, aliased, handOn, listAlias, reading, ownWith, ownColumns, ownTables, references, aliases}
-use Rattle.scope.specs.ScopeQuestions.{withNames, tableAliases, columnAliases, tableRefs}
-use Rattle.scope.specs.AllRoots.{emptied}
-use Rattle.scope.specs.Statement.{orElse, firstFind, enclosingAt}
-use Rattle.cursor.specs.Path.{deepestOr, onPath}
-use Rattle.cursor.specs.LastToken.{lastOr, init, lastTwo, isText, dotted}
+use Rattle.table.specs.worked.Worked.{rec}
+use Rattle.names.specs.Names.{isAs, isPart, isName, direct, unquoted, nameOf, binding, lastOf}
+use Rattle.scope.specs.Collection.{entered, collected, collection, ownWith, ownColumns, ownTables}
+use Rattle.tables.specs.Tables.{fresh, aliased, handOn, listAlias, reading, references, aliases}
+use Rattle.scope.specs.Scope.{withNames, tableAliases, columnAliases, tableRefs}
+use Rattle.roots.specs.AllRoots.{emptied}
+use Rattle.statement.specs.Statement.{orElse, firstFind, enclosingAt}
+use Rattle.path.specs.Path.{deepestOr, onPath, nextOf}
+use Rattle.tokens.specs.LastToken.{lastOr, init, lastTwo, isText, dotted}
 use Rattle.cursor.specs.Trailing.{lastClause, pastClause, pastEnd, trailingIn}
-use Rattle.cursor.specs.PathRules.{nextOf, columnOr, column, pathRules, ruled, orElse as either, byPath}
-use Rattle.cursor.specs.Context.{lastRule, givenOr, contextAt, rangeOf, coded}
-use Rattle.cursor.specs.Root.{statementOr, rootOf, rootAt}
+use Rattle.cursor.specs.PathRules.{columnOr, column, pathRules, ruled, orElse as either, byPath}
+use Rattle.cursor.specs.CursorContext.{lastRule, givenOr, contextAt}
+use Rattle.cursor.specs.Context.{rangeOf, coded}
+use Rattle.offers.specs.Root.{statementOr, rootOf, rootAt}
 use Rattle.desk.specs.Reply.{contextRow}
 use Rattle.demands.specs.declared.Question.the-variants.{CursorContext, TableAliases, TableRefs, TableAliasesAt, TableRefsAt}
 use Rattle.demands.specs.Questions.{Asked, asked, rows, matter}

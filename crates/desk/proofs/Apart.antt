@@ -13,14 +13,14 @@ use Rattle.table.specs.declared.list.Listed.{Listed}
 use Rattle.table.specs.declared.list.Listed.the-variants.{Entries, Refused as Denied}
 use Rattle.table.specs.Rules.{Rule, rule, first, rules, rulesFrom, rootRules}
 use Rattle.table.specs.Lists.{roomRule}
-use Rattle.scope.specs.declared.bracket_matching.Hint.{Hint}
-use Rattle.scope.specs.declared.bracket_matching.Hint.the-variants.{Opener, NoOpener}
-use Rattle.scope.specs.declared.bracket_matching.HintReply.{HintReply}
-use Rattle.scope.specs.declared.bracket_matching.HintReply.the-variants.{Hinted, Refused as Unhinted}
-use Rattle.scope.specs.declared.scope.StatementReply.{StatementReply}
-use Rattle.scope.specs.declared.scope.StatementReply.the-variants.{Statement, NoStatement, Refused as Unstated}
-use Rattle.cursor.specs.declared.scope_at_cursor.RootReply.{RootReply}
-use Rattle.cursor.specs.declared.scope_at_cursor.RootReply.the-variants.{Root, Refused as Unrooted}
+use Rattle.brackets.specs.declared.bracket_matching.Hint.{Hint}
+use Rattle.brackets.specs.declared.bracket_matching.Hint.the-variants.{Opener, NoOpener}
+use Rattle.brackets.specs.declared.bracket_matching.HintReply.{HintReply}
+use Rattle.brackets.specs.declared.bracket_matching.HintReply.the-variants.{Hinted, Refused as Unhinted}
+use Rattle.statement.specs.declared.statement.StatementReply.{StatementReply}
+use Rattle.statement.specs.declared.statement.StatementReply.the-variants.{Statement, NoStatement, Refused as Unstated}
+use Rattle.offers.specs.declared.root.RootReply.{RootReply}
+use Rattle.offers.specs.declared.root.RootReply.the-variants.{Root, Refused as Unrooted}
 use Rattle.desk.specs.Reply.{half, none, packed, verdictReply, listReply, hintRecord, hintReply, statementNumber, rootNumber}
 
 -- the halves of a number come back

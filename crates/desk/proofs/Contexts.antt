@@ -9,9 +9,9 @@ use Rattle.table.specs.declared.list.Listed.the-variants.{Refused as Unlisted}
 use Rattle.table.specs.Rules.{rules, first, verdict}
 use Rattle.table.specs.Lists.{listed, lent}
 use Rattle.table.proofs.Writes.{list-refused, list-admitted}
-use Rattle.cursor.specs.declared.cursor_context.CursorContext.{CursorContext}
-use Rattle.cursor.specs.declared.cursor_context.ContextReply.the-variants.{Context, Refused as Denied}
-use Rattle.cursor.specs.Context.{contextReply}
+use Rattle.cursor.specs.declared.context.CursorContext.{CursorContext}
+use Rattle.cursor.specs.declared.context.ContextReply.the-variants.{Context, Refused as Denied}
+use Rattle.cursor.specs.CursorContext.{contextReply}
 use Rattle.cursor.proofs.Replies.{refused-is, given-is}
 use Rattle.desk.specs.Reply.{contextRow}
 

@@ -6,16 +6,16 @@ use Rattle.table.specs.declared.check.Verdict.{Verdict}
 use Rattle.table.specs.declared.check.Verdict.the-variants.{Admitted, Refused}
 use Rattle.table.specs.declared.list.Listed.{Listed}
 use Rattle.table.specs.declared.list.Listed.the-variants.{Entries, Refused as Denied}
-use Rattle.scope.specs.declared.bracket_matching.Hint.{Hint}
-use Rattle.scope.specs.declared.bracket_matching.Hint.the-variants.{Opener, NoOpener}
-use Rattle.scope.specs.declared.bracket_matching.HintReply.{HintReply}
-use Rattle.scope.specs.declared.bracket_matching.HintReply.the-variants.{Hinted, Refused as Unhinted}
-use Rattle.scope.specs.declared.scope.StatementReply.{StatementReply}
-use Rattle.scope.specs.declared.scope.StatementReply.the-variants.{Statement, NoStatement, Refused as Unstated}
-use Rattle.cursor.specs.declared.cursor_context.CursorContext.{CursorContext}
+use Rattle.brackets.specs.declared.bracket_matching.Hint.{Hint}
+use Rattle.brackets.specs.declared.bracket_matching.Hint.the-variants.{Opener, NoOpener}
+use Rattle.brackets.specs.declared.bracket_matching.HintReply.{HintReply}
+use Rattle.brackets.specs.declared.bracket_matching.HintReply.the-variants.{Hinted, Refused as Unhinted}
+use Rattle.statement.specs.declared.statement.StatementReply.{StatementReply}
+use Rattle.statement.specs.declared.statement.StatementReply.the-variants.{Statement, NoStatement, Refused as Unstated}
+use Rattle.cursor.specs.declared.context.CursorContext.{CursorContext}
 use Rattle.cursor.specs.Context.{coded}
-use Rattle.cursor.specs.declared.scope_at_cursor.RootReply.{RootReply}
-use Rattle.cursor.specs.declared.scope_at_cursor.RootReply.the-variants.{Root, Refused as Unrooted}
+use Rattle.offers.specs.declared.root.RootReply.{RootReply}
+use Rattle.offers.specs.declared.root.RootReply.the-variants.{Root, Refused as Unrooted}
 
 -- how many values a half has
 abbrev pub half : ℕ

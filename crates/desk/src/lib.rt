@@ -2,10 +2,10 @@
 // its low 32 bits are the refusal's number, 0 where the question is answered, and its high 32 bits the detail or the answer.
 pub mod at_cursor;
 
-use scope::bracket_matching::Hint;
-use scope::bracket_matching::HintReply;
-use scope::bracket_matching::bracket_hint;
-use scope::bracket_matching::openers_left;
+use brackets::bracket_matching::Hint;
+use brackets::bracket_matching::HintReply;
+use brackets::bracket_matching::bracket_hint;
+use brackets::bracket_matching::openers_left;
 use scope::scope::column_aliases;
 use scope::scope::table_aliases;
 use scope::scope::table_refs;
@@ -19,20 +19,22 @@ ghost use lib.ListN.{length};
 ghost use Rattle.table.specs.Rules.{rules, rootRules, verdict};
 ghost use Rattle.table.specs.Lists.{listed, lent};
 ghost use Rattle.scope.specs.Classes.{row as classRow, classesOf};
-ghost use Rattle.scope.specs.Brackets.{row as openerRow, stackLeft, openersLeft, hintOf, hinted};
-ghost use Rattle.scope.specs.ScopeQuestions.{bindingRow, referenceRow, withNames, tableAliases, columnAliases, tableRefs};
+ghost use Rattle.brackets.specs.Brackets.{row as openerRow, stackLeft, openersLeft, hintOf, hinted};
+ghost use Rattle.names.specs.Bindings.{bindingRow};
+ghost use Rattle.tables.specs.Tables.{referenceRow};
+ghost use Rattle.scope.specs.Scope.{withNames, tableAliases, columnAliases, tableRefs};
 ghost use Rattle.desk.specs.Reply.{packed, verdictReply, listReply, hintRecord, hintReply};
 
 // How many values a half of a reply has.
 const HALF: u64 = 4294967296;
 
 // The low half of an answer.
-const ANSWERED: u32 = 0;
+pub const ANSWERED: u32 = 0;
 
 // The high half where the answer is that there is none.
-const NONE: u32 = 4294967295;
+pub const NONE: u32 = 4294967295;
 
-fn packed(low: u32, high: u32) -> u64
+pub fn packed(low: u32, high: u32) -> u64
     ensures { λ r. ⌜ r ≡ packed low high ⌝ }
 {
     low as u64 + HALF * (high as u64)
@@ -47,7 +49,7 @@ fn verdict_reply(v: Verdict) -> u64
     }
 }
 
-fn list_reply(l: Listed) -> u64
+pub fn list_reply(l: Listed) -> u64
     ensures { λ r. ⌜ r ≡ listReply l ⌝ }
 {
     match l {

@@ -19,12 +19,13 @@ use Rattle.table.specs.declared.check.Verdict.the-variants.{Admitted, Refused}
 use Rattle.table.specs.Rules.{first}
 use Rattle.table.proofs.Laws.{lt-or-le}
 use Rattle.table.proofs.Texts.{both}
-use Rattle.frame.specs.Lines.{Line, line, lf, lines, allDigits, isHex, isSource, isNumbers, offsetDigits, recordDigits, lastLine, faulty, recordRules, frameRules}
-use Rattle.frame.specs.Output.{refusalLine, unlessRefused, replied, repliedTo, glanced}
-use Rattle.frame.specs.Steps.{span, lineTo}
+use Rattle.lines.specs.Lines.{Line, line, lf, lines, allDigits, isHex, isSource, isNumbers, offsetDigits, recordDigits, lastLine, faulty, recordRules, frameRules}
+use Rattle.report.specs.Output.{refusalLine, unlessRefused, replied}
+use Rattle.frame.specs.Glance.{repliedTo, glanced}
+use Rattle.lines.specs.inner.Reading.{span, lineTo}
 use Rattle.frame.specs.Enough.{inputRoom, Enough}
-use Rattle.frame.proofs.Answers.{never-both}
-use Rattle.frame.proofs.Reading.{first-line, first-faulty, lines-behind, lines-some, drop-two, source-unended, numbers-unended, source-short, numbers-long}
+use Rattle.report.proofs.Answers.{never-both}
+use Rattle.lines.proofs.Reading.{first-line, first-faulty, lines-behind, lines-some, drop-two, source-unended, numbers-unended, source-short, numbers-long}
 
 clash : {k d : ℕ} → Admitted ≡ Refused k d → ⊥
 clash q = never-both q refl

@@ -5,7 +5,7 @@ use Prim.Native.Nat.{ℕ}
 use mathlib.Core.Path.{_≡_}
 use mathlib.Core.List.{List}
 use lib.ListN.{take}
-use Rattle.frame.specs.Output.{glanced}
+use Rattle.frame.specs.Glance.{glanced}
 
 abbrev pub inputRoom : ℕ
 inputRoom = 29707

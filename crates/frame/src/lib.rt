@@ -1,18 +1,15 @@
 // glance's whole work, from input bytes to output bytes: what the program prints is proved here.
-pub mod input;
-mod output;
-
-use input::Frame;
-use input::MOST_BYTES;
-use input::read_frame;
-use output::put_refusal;
-use output::put_reply;
+use lines::input::Frame;
+use lines::input::MOST_BYTES;
+use lines::input::read_frame;
+use report::output::put_refusal;
+use report::output::put_reply;
 use table::record::RECORD_BYTES;
 ghost use mathlib.Core.Path.{_≡_};
 ghost use mathlib.Core.List.{_++_};
 ghost use Prim.Native.Nat.{_≤_};
 ghost use lib.ListN.{length, drop};
-ghost use Rattle.frame.specs.Output.{glanced};
+ghost use Rattle.frame.specs.Glance.{glanced};
 
 // How many bytes of room the table of a frame has: 1,024 records.
 const TABLE_ROOM: usize = 16384;

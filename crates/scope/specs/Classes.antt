@@ -11,7 +11,7 @@ use Rattle.table.specs.Text.{text}
 use Rattle.scope.specs.declared.semantic_tokens.TokenClass.{TokenClass}
 use Rattle.scope.specs.declared.semantic_tokens.TokenClass.the-variants.{Keyword, Function, StringLiteral, Number, Comment, Operator, Variable, TypeName, Parameter, Property, Unclassed}
 use Rattle.scope.specs.declared.semantic_tokens.ClassedToken.{ClassedToken}
-use Rattle.scope.specs.Keywords.{isKeyword}
+use Rattle.keywords.specs.Keywords.{isKeyword}
 
 -- a kind from a to b
 unfoldable pub between : ℕ → ℕ → ℕ → Bool

@@ -1,5 +1,4 @@
-// The answers that need no cursor, a file for each Rust file: token classes, brackets, and the names that a query offers.
-pub mod bracket_matching;
-pub mod keywords;
+// Classes and scope: token classes, the collection, and the four lists of a root.
+pub mod collection;
 pub mod scope;
 pub mod semantic_tokens;

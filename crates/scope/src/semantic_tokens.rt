@@ -1,8 +1,8 @@
 // Token classes: what colour each token has, by its kind, its direct parent's kind and, for a bareword, the keywords.
-use crate::keywords::KEYWORDS;
-use crate::keywords::STARTS;
-use crate::keywords::Starts;
-use crate::keywords::keyword_in;
+use keywords::keywords::KEYWORDS;
+use keywords::keywords::STARTS;
+use keywords::keywords::Starts;
+use keywords::keywords::keyword_in;
 use table::check::Verdict;
 use table::check::check;
 use table::kinds::BARE_WORD;
@@ -30,11 +30,11 @@ ghost use mathlib.Core.Bool.{false};
 ghost use mathlib.Core.List.{[]};
 ghost use Prim.Native.Nat.{ℕ, _+_, _*_, _≤_, _<_};
 ghost use lib.ListN.{length};
-ghost use Rattle.table.specs.Table.{count, records, kindAt, startAt, endAt};
+ghost use Rattle.table.specs.Table.{count, records, kindAt};
 ghost use Rattle.table.specs.Forest.{kids, stretchEnd};
 ghost use Rattle.table.specs.Rules.{mostRecords, rules};
 ghost use Rattle.table.specs.Lists.{farthest, listBytes, Written, listed, lent};
-ghost use Rattle.scope.specs.KeywordTable.{Lent};
+ghost use Rattle.keywords.specs.inner.KeywordTable.{Lent};
 ghost use Rattle.scope.specs.Classes.{byParent, judged, bareword, classOf, numberOf, row, entryBytes, entryOf, classes, classesOf};
 
 // The classes by document 01's numbers, 0 to 9, and none.

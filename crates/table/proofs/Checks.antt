@@ -24,7 +24,7 @@ use Rattle.table.specs.declared.check.Found.the-variants.{Next, Broken}
 use Rattle.table.specs.Kinds.{isNode, isToken}
 use Rattle.table.specs.Table.{recordBytes, count, kindAt, depthAt, recordAt}
 use Rattle.table.specs.Rules.{mostRecords, mostDepth, badLength, tooLong, unlisted, misplaced, tooDeep, badSpan, lastEnd, noRoot, Rule, rule, rulesAt, rulesFrom, rules, first, verdict, rootVerdict}
-use Rattle.table.specs.Step.{deepest, knownAt, after, strange, outOfPlace, offSource, stepOf}
+use Rattle.table.specs.inner.Step.{deepest, knownAt, after, strange, outOfPlace, offSource, stepOf}
 use Rattle.table.proofs.Laws.{lt-or-le}
 
 -- ---- what the check finds at record i is what the rules say of it

@@ -21,7 +21,8 @@ use Rattle.table.specs.declared.record.Rec.{Rec}
 use Rattle.table.specs.Kinds.{isNode, lastNode}
 use Rattle.table.specs.Table.{recordBytes, count, kindAt, depthAt, recordAt, from, records}
 use Rattle.table.specs.Forest.{Forest, nil, token, node, level, kids}
-use Rattle.table.specs.Scan.{Reading, fold, tokensOf, only, reached, ofTokens}
+use Rattle.table.specs.inner.Scan.{Reading, fold, ofTokens}
+use Rattle.table.specs.Tokens.{tokensOf, only, reached}
 use Rattle.table.specs.Descent.{along}
 use Rattle.table.proofs.Laws.{lt-or-le, node-or-token, level-shallow, level-deep, level-token, level-node, from-end, from-cons, kids-none}
 

@@ -16,6 +16,7 @@ use lib.ListN.{length, take, drop}
 use lib.Seq.{take-length}
 use lib.Dec.{eqb, ltb}
 use Rattle.table.specs.declared.record.Rec.{Rec}
+use Rattle.table.specs.declared.check.Verdict.{Verdict}
 use Rattle.table.specs.declared.check.Verdict.the-variants.{Admitted}
 use Rattle.table.specs.Kinds.{isToken, expression, otherToken, arrow}
 use Rattle.table.specs.Table.{recordBytes, count, kindAt, depthAt, startAt, endAt, recordAt, run, from, records}
@@ -292,3 +293,7 @@ module _ (t : List ℕ) (n : ℕ) (w : Tidy t n) where
       let none : inOrder 0 nil ≡ [] = (unfold inOrder in refl) in
       in-node 0 0 (kids (records 0 t)) nil
       ∙ rw (kids-linked, none, append-nil (byDepth t (rest 1 (count t - 1)))) (sym (ap (byDepth t) others ∙ first-linked (rest 1 (count t - 1))))
+
+-- an admitted table has a record, and few
+pub admitted-sized : (t : List ℕ) (n : ℕ) {v : Verdict} → v ≡ verdict t n 0 → v ≡ Admitted → (0 < count t) × (count t < 4294967296)
+admitted-sized t n e q = let y = admitted-tidy t n 0 (sym e ∙ q) in (y .some, omega (arith, y .few))

@@ -62,3 +62,7 @@ pub record Reached (t : List ℕ) (k j r : ℕ) : Type 0 where
   pub within : r ≤ count t
   pub depth : r < count t → depthAt t r ≤ k
   pub passed : (i : ℕ) → j ≤ i → i < r → k < depthAt t i
+
+-- the children of record i
+abbrev pub inside : List ℕ → ℕ → Forest
+inside t i = kids (from t 0 i)

@@ -6,12 +6,11 @@ use crate::record::Rec;
 use crate::record::kind_at;
 use crate::record::record_at;
 ghost use mathlib.Core.Path.{_≡_};
-ghost use mathlib.Core.Bool.{false};
 ghost use Prim.Native.Nat.{_+_, _≤_, _<_};
 ghost use lib.ListN.{length};
 ghost use Rattle.table.specs.Table.{count};
 ghost use Rattle.table.specs.Rules.{mostRecords, badLength, tooLong, noRoot, first, rulesFrom, verdict, rootVerdict};
-ghost use Rattle.table.specs.Step.{after, strange, outOfPlace, offSource, stepOf};
+ghost use Rattle.table.specs.inner.Step.{after, strange, outOfPlace, offSource, stepOf};
 
 const MOST_RECORDS: usize = 4096;
 

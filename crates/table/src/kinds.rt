@@ -82,7 +82,7 @@ pub const IDENTIFIER: usize = 46;
 
 pub const LAST_NODE: usize = 55;
 
-pub const FIRST_TOKEN: usize = 128;
+const FIRST_TOKEN: usize = 128;
 
 pub const WHITESPACE: usize = 129;
 
@@ -102,13 +102,13 @@ pub const COMMA: usize = 136;
 
 pub const OPENING_ROUND: usize = 137;
 
-pub const OPENING_SQUARE: usize = 138;
+const OPENING_SQUARE: usize = 138;
 
 pub const OPENING_CURLY: usize = 139;
 
 pub const CLOSING_ROUND: usize = 140;
 
-pub const CLOSING_SQUARE: usize = 141;
+const CLOSING_SQUARE: usize = 141;
 
 pub const CLOSING_CURLY: usize = 142;
 

@@ -2,6 +2,7 @@
 pub mod check;
 pub mod kinds;
 pub mod list;
+pub mod range;
 pub mod record;
 pub mod stretch;
 pub mod text;

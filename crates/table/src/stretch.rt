@@ -8,7 +8,7 @@ ghost use Rattle.table.specs.Table.{recordBytes, count, part};
 ghost use Rattle.table.specs.Forest.{stretchEnd, Child, Reached};
 
 // The first record after i that is not deeper than i, or the count of records.
-pub fn stretch_end(t: &[u8], i: usize) -> usize
+fn stretch_end(t: &[u8], i: usize) -> usize
     requires { ⌜ i < count (now t) ⌝ }
     ensures { λ r. ⌜ (r ≡ stretchEnd (now (t .entry)) i) × (i < r) × (r ≤ count (now (t .entry))) ⌝ }
 {

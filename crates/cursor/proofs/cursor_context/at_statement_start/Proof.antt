@@ -1,4 +1,4 @@
-use Rattle.cursor.specs.Context.{lastRule}
+use Rattle.cursor.specs.CursorContext.{lastRule}
 use borrow.Author.Tests.{eq-eqb, ne-eqb}
 use borrow.Author.Needs.{needs}
 use Rattle.cursor.proofs.cursor_context.at_statement_start.Statement.{statement}

@@ -1,4 +1,5 @@
-use Rattle.cursor.proofs.Replies.{reply-refused, reply-given, sized}
+use Rattle.cursor.proofs.Replies.{reply-refused, reply-given}
+use Rattle.table.proofs.Sense.{admitted-sized}
 use borrow.Author.Needs.{needs}
 use native.Mathlib.Omega.{arith}
 use Rattle.cursor.proofs.cursor_context.cursor_context.Statement.{statement}
@@ -11,6 +12,6 @@ cursor-context-spec =
     (λ c κs. search needs)  -- check-requires
     (λ c. omega arith)  -- enum-known-k
     (λ c. search needs)  -- enum-told
-    (λ c κs. sized _ _ (c .before .before .check .ensures) (cc))  -- context-at-requires
+    (λ c κs. admitted-sized _ _ (c .before .before .check .ensures) (cc))  -- context-at-requires
     (λ c. reply-refused _ (c .before .before .before .check .ensures) (c .before .k .given .1))  -- returns
     (λ c. reply-given _ (c .before .before .before .check .ensures) (cc) (c .context-at .ensures)))  -- returns-2

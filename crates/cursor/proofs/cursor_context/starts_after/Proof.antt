@@ -1,5 +1,5 @@
-use Rattle.cursor.specs.Context.{startsAfter}
-use Rattle.cursor.specs.LastToken.{isText}
+use Rattle.cursor.specs.CursorContext.{startsAfter}
+use Rattle.tokens.specs.LastToken.{isText}
 use borrow.Author.Needs.{needs}
 use Rattle.cursor.proofs.cursor_context.starts_after.Statement.{statement}
 use Rattle.cursor.proofs.cursor_context.starts_after.Tie as tie

@@ -1,6 +1,6 @@
 use Rattle.desk.specs.Reply.{listReply}
 use Rattle.desk.proofs.Contexts.{context-refused, context-given}
-use Rattle.cursor.specs.Context.{contextAt}
+use Rattle.cursor.specs.CursorContext.{contextAt}
 use lib.ListN.{length}
 use mathlib.Core.Path.{sym, ap, _∙_}
 use borrow.Author.Needs.{needs}

@@ -1,5 +1,5 @@
-use Rattle.scope.proofs.ScopeLists.{question, column-rows}
-use Rattle.scope.specs.ScopeQuestions.{bindingRow}
+use Rattle.scope.proofs.Lists.{question, column-rows}
+use Rattle.names.specs.Bindings.{bindingRow}
 use borrow.Author.Needs.{needs}
 use Rattle.scope.proofs.scope.column_aliases.Statement.{statement}
 use Rattle.scope.proofs.scope.column_aliases.Tie as tie

@@ -1,4 +1,4 @@
-use Rattle.scope.specs.ScopeRows.{width}
+use Rattle.scope.specs.inner.Rows.{width}
 use native.Mathlib.Omega.{arith}
 use borrow.Author.Needs.{needs}
 use Rattle.scope.proofs.scope.entries_of.Statement.{statement}

@@ -1,6 +1,6 @@
-use Rattle.scope.proofs.ScopeLists.{root-first, root-passed, root-some, rows-written, rows-denied}
+use Rattle.scope.proofs.Lists.{root-first, root-passed, root-some, rows-written, rows-denied}
 use Rattle.table.proofs.Writes.{list-refused}
-use Rattle.scope.specs.ScopeRows.{same}
+use Rattle.tables.specs.inner.Rows.{same}
 use native.Mathlib.Omega.{arith}
 use borrow.Author.Needs.{needs}
 use Rattle.scope.proofs.scope.list_of.Statement.{statement}

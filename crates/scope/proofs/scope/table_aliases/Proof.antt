@@ -1,5 +1,5 @@
-use Rattle.scope.proofs.ScopeLists.{question, alias-rows}
-use Rattle.scope.specs.ScopeQuestions.{bindingRow}
+use Rattle.scope.proofs.Lists.{question, alias-rows}
+use Rattle.names.specs.Bindings.{bindingRow}
 use borrow.Author.Needs.{needs}
 use Rattle.scope.proofs.scope.table_aliases.Statement.{statement}
 use Rattle.scope.proofs.scope.table_aliases.Tie as tie

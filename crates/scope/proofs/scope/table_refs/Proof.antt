@@ -1,5 +1,5 @@
-use Rattle.scope.proofs.ScopeLists.{question, reference-rows}
-use Rattle.scope.specs.ScopeQuestions.{referenceRow}
+use Rattle.scope.proofs.Lists.{question, reference-rows}
+use Rattle.tables.specs.Tables.{referenceRow}
 use borrow.Author.Needs.{needs}
 use Rattle.scope.proofs.scope.table_refs.Statement.{statement}
 use Rattle.scope.proofs.scope.table_refs.Tie as tie

@@ -1,5 +1,5 @@
-use Rattle.scope.proofs.ScopeLists.{question, with-rows}
-use Rattle.scope.specs.ScopeQuestions.{bindingRow}
+use Rattle.scope.proofs.Lists.{question, with-rows}
+use Rattle.names.specs.Bindings.{bindingRow}
 use borrow.Author.Needs.{needs}
 use Rattle.scope.proofs.scope.with_names.Statement.{statement}
 use Rattle.scope.proofs.scope.with_names.Tie as tie

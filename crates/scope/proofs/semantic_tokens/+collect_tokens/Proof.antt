@@ -11,6 +11,8 @@ use Rattle.scope.specs.Classes.{classes, row}
 use Rattle.scope.proofs.ClassLaws.{class-nil, class-token, class-node}
 use borrow.Fn.Kinds.{In}
 use borrow.Fn.PlainCycle.{Measures, is, falls, and}
+use Rattle.scope.proofs.semantic_tokens.+collect_tokens.{statement}
+use Rattle.scope.proofs.semantic_tokens.+collect_tokens.Tie.{close}
 use Rattle.scope.proofs.semantic_tokens.collect_tokens.Reads as collect-tokens
 use Rattle.scope.proofs.semantic_tokens.collect_tokens.Kinds as collect-tokens-kinds
 use Rattle.scope.proofs.semantic_tokens.+collect_tokens.Lts-collect_tokens as collect-tokens-lts
@@ -23,8 +25,6 @@ use Rattle.table.proofs.record.kind_at.Reads as kind-at-reads
 use Rattle.table.proofs.record.start_at.Reads as start-at-reads
 use Rattle.table.proofs.stretch.level_from.Reads as level-from-reads
 use Rattle.table.proofs.stretch.rest_from.Reads as rest-from-reads
-use Rattle.scope.proofs.semantic_tokens.+collect_tokens.{statement}
-use Rattle.scope.proofs.semantic_tokens.+collect_tokens.Tie.{close}
 
 abbrev μ-collect-tokens : Measures 5 collect-tokens-kinds.ps ℕ
 μ-collect-tokens κs a = length (a .1 .1 .0 .now)

@@ -1,7 +1,7 @@
 use lib.ListN.{length}
 use Rattle.scope.specs.Classes.{row}
-use Rattle.scope.specs.KeywordTable.{keywordBytes}
-use Rattle.scope.specs.Keywords.{keywords}
+use Rattle.keywords.specs.inner.KeywordTable.{keywordBytes}
+use Rattle.keywords.specs.Keywords.{keywords}
 use Rattle.table.proofs.Sense.{admitted-tidy}
 use Rattle.table.proofs.Writes.{list-refused, list-admitted}
 use Rattle.table.specs.Rules.{verdict}

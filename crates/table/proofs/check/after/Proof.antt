@@ -1,4 +1,4 @@
-use Rattle.table.specs.Step.{after}
+use Rattle.table.specs.inner.Step.{after}
 use borrow.Author.Needs.{needs}
 use Rattle.table.proofs.check.after.Statement.{statement}
 use Rattle.table.proofs.check.after.Tie as tie

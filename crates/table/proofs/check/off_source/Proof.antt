@@ -1,4 +1,4 @@
-use Rattle.table.specs.Step.{offSource}
+use Rattle.table.specs.inner.Step.{offSource}
 use borrow.Author.Needs.{needs}
 use Rattle.table.proofs.check.off_source.Statement.{statement}
 use Rattle.table.proofs.check.off_source.Tie as tie

@@ -1,5 +1,5 @@
 use borrow.Author.Tests.{eq-eqb, ne-eqb}
-use Rattle.table.specs.Step.{outOfPlace}
+use Rattle.table.specs.inner.Step.{outOfPlace}
 use borrow.Author.Needs.{needs}
 use Rattle.table.proofs.check.out_of_place.Statement.{statement}
 use Rattle.table.proofs.check.out_of_place.Tie as tie

@@ -1,6 +1,6 @@
 use native.Mathlib.Omega.{arith}
 use borrow.Author.Tests.{lt-ltb, le-ltb}
-use Rattle.table.specs.Step.{stepOf}
+use Rattle.table.specs.inner.Step.{stepOf}
 use borrow.Author.Needs.{needs}
 use Rattle.table.proofs.check.step.Statement.{statement}
 use Rattle.table.proofs.check.step.Tie as tie

@@ -1,4 +1,4 @@
-use Rattle.table.specs.Step.{strange}
+use Rattle.table.specs.inner.Step.{strange}
 use borrow.Author.Needs.{needs}
 use Rattle.table.proofs.check.strange.Statement.{statement}
 use Rattle.table.proofs.check.strange.Tie as tie

@@ -1,0 +1,22 @@
+use Rattle.brackets.specs.Brackets.{row}
+use Rattle.table.proofs.Sense.{admitted-tidy}
+use Rattle.table.proofs.Writes.{list-refused, list-admitted}
+use Rattle.table.specs.Rules.{verdict}
+use lib.ListN.{length}
+use native.Mathlib.Omega.{arith}
+use borrow.Author.Needs.{needs}
+use Rattle.brackets.proofs.bracket_matching.openers_left.Statement.{statement}
+use Rattle.brackets.proofs.bracket_matching.openers_left.Tie as tie
+
+pub openers-left-spec : {M : Type 1} → statement M
+unfolding verdict
+openers-left-spec =
+    tie.close
+    (tie.spec
+    (λ c κs. search needs)  -- check-requires
+    (λ c. search needs)  -- enum-known-k
+    (λ c. search needs)  -- enum-told
+    (λ c κs. let a = c .before .before .before .before .before .before .before .args in let w = admitted-tidy (a .table .now) (length (a .source .now)) 0 (cc) in (w .some, w .few))  -- list-openers-requires
+    (λ c. list-refused row _ _ _ (cc))  -- returns
+    (λ c. search needs)  -- same-length
+    (λ c. list-admitted row _ _ _ (cc) (c .before .before .list-openers .ensures)))  -- returns-2

@@ -1,0 +1,2 @@
+// Bracket matching: the stack, the openers left, the hint.
+pub mod bracket_matching;

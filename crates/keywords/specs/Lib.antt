@@ -1,0 +1,3 @@
+pub mod Keywords
+pub mod inner
+pub mod worked

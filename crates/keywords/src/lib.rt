@@ -1,0 +1,2 @@
+// The word list of `KEYWORDS` and its test.
+pub mod keywords;

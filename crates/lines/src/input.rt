@@ -1,0 +1,205 @@
+// A frame's lines: hexadecimal digits to the source, the offset and the table.
+use table::list::put_entry;
+use table::record::RECORD_BYTES;
+use table::text::text_of;
+ghost use mathlib.Core.Path.{_≡_};
+ghost use Prim.Native.Nat.{_+_, _*_, _≤_, _<_};
+ghost use lib.ListN.{length, drop};
+ghost use lib.Seq.{sets};
+ghost use Rattle.table.specs.Lists.{put};
+ghost use Rattle.lines.specs.Lines.{lines, isDigit, value, allDigits, isHex, isSource, isNumbers, mostBytes};
+ghost use Rattle.lines.specs.Frame.{number, pairs, fieldsOf};
+ghost use Rattle.lines.specs.inner.Reading.{span, lineTo, tableRoom, ReadRecords, ReadFrame};
+
+const LF: u8 = 10;
+
+// The most bytes of a source.
+pub const MOST_BYTES: usize = 4096;
+
+const OFFSET_DIGITS: usize = 8;
+
+const RECORD_DIGITS: usize = 20;
+
+// The places of the first record's line and of the last that there may be, counted from 1.
+const RECORD_LINE: usize = 3;
+
+const LAST_LINE: usize = 1026;
+
+// What the reading of the records' lines finds.
+pub enum Records {
+    // the first faulty line
+    Faulty(u32),
+    // how many there are
+    Read(usize),
+}
+
+// What the reading of a frame finds.
+pub enum Frame {
+    // the first faulty line
+    Unreadable(u32),
+    // the source's bytes, the offset and the records
+    Given(usize, usize, usize),
+}
+
+fn value(b: u8) -> usize
+    ensures { λ r. ⌜ (r ≡ value b) × (r < 16) ⌝ }
+{
+    match b {
+        b'0'..=b'9' => (b - 48) as usize,
+        b'a'..=b'f' => (b - 87) as usize,
+        _ => 0,
+    }
+}
+
+fn is_digit(b: u8) -> bool
+    ensures { λ r. ⌜ r ≡ isDigit b ⌝ }
+{
+    ((b'0' <= b) & (b <= b'9')) | ((b'a' <= b) & (b <= b'f'))
+}
+
+fn all_digits(bytes: &[u8]) -> bool
+    ensures { λ r. ⌜ r ≡ allDigits (now (bytes .entry)) ⌝ }
+{
+    let mut i = 0;
+    while i < bytes.len() {
+        if !is_digit(bytes[i]) {
+            return false;
+        }
+        i += 1;
+    }
+    true
+}
+
+// Where the first line ends: at its LF, or with the text.
+fn line_end(text: &[u8]) -> usize
+    ensures { λ r. ⌜ (r ≡ span (now (text .entry))) × (r ≤ length (now (text .entry))) ⌝ }
+{
+    let mut i = 0;
+    while i < text.len() {
+        if text[i] == LF {
+            return i;
+        }
+        i += 1;
+    }
+    i
+}
+
+// The text behind a line that ends at byte end.
+fn after_line(text: &[u8], end: usize) -> &[u8]
+    requires { ⌜ end ≤ length (now text) ⌝ }
+    ensures { λ r. ⌜ now r ≡ drop (end + 1) (now (text .entry)) ⌝ }
+{
+    if end < text.len() {
+        let next = end + 1;
+        return &text[next..];
+    }
+    &text[end..]
+}
+
+fn is_hex(text: &[u8], end: usize) -> bool
+    requires { ⌜ end ≤ length (now text) ⌝ }
+    ensures { λ r. ⌜ r ≡ isHex (lineTo (now (text .entry)) end) ⌝ }
+{
+    (end < text.len()) & all_digits(&text[..end])
+}
+
+fn is_source(text: &[u8], end: usize) -> bool
+    requires { ⌜ end ≤ length (now text) ⌝ }
+    ensures { λ r. ⌜ r ≡ isSource (lineTo (now (text .entry)) end) ⌝ }
+{
+    is_hex(text, end) & (end % 2 == 0) & (end <= 2 * MOST_BYTES)
+}
+
+fn is_numbers(text: &[u8], end: usize, n: usize) -> bool
+    requires { ⌜ end ≤ length (now text) ⌝ }
+    ensures { λ r. ⌜ r ≡ isNumbers n (lineTo (now (text .entry)) end) ⌝ }
+{
+    is_hex(text, end) & (end == n)
+}
+
+pub fn number(digits: &[u8]) -> usize
+    requires { ⌜ length (now digits) ≤ 8 ⌝ }
+    ensures { λ r. ⌜ r ≡ number (now (digits .entry)) ⌝ }
+{
+    let mut v = 0;
+    let mut i = 0;
+    while i < digits.len() {
+        v = v * 16 + value(digits[i]);
+        i += 1;
+    }
+    v
+}
+
+// Writes the source's bytes, two digits each.
+fn read_source(digits: &[u8], source: &mut [u8])
+    requires { ⌜ length (now digits) ≤ 2 * length (now source) ⌝ }
+    ensures { λ _. ⌜ now (source .exit) ≡ sets (now (source .entry)) 0 (pairs (now (digits .entry))) ⌝ }
+{
+    let n = digits.len() / 2;
+    let mut i = 0;
+    while i < n {
+        source[i] = (value(digits[2 * i]) * 16 + value(digits[2 * i + 1])) as u8;
+        i += 1;
+    }
+}
+
+// Writes a record from byte `at` of the table on.
+fn put_record(table: &mut [u8], at: usize, digits: &[u8])
+    requires { ⌜ at ≤ tableRoom ⌝ }
+    ensures { λ _. ⌜ now (table .exit) ≡ put (now (table .entry)) at (fieldsOf (now (digits .entry))) ⌝ }
+{
+    let kind = number(text_of(digits, 0, 2));
+    let depth = number(text_of(digits, 2, 4));
+    let start = number(text_of(digits, 4, 12));
+    let end = number(text_of(digits, 12, 20));
+    let entry = [kind, depth, start, end];
+    put_entry(table, at, &entry);
+}
+
+// Reads the records' lines into the table.
+fn read_records(text: &[u8], table: &mut [u8]) -> Records
+    requires { ⌜ length (now table) ≡ tableRoom ⌝ }
+    ensures { λ r. ⌜ ReadRecords (lines (now (text .entry))) (now (table .exit)) r ⌝ }
+{
+    let mut rest = text;
+    let mut n = 0;
+    while 0 < rest.len() {
+        let end = line_end(rest);
+        let line = n + RECORD_LINE;
+        if (LAST_LINE < line) | !is_numbers(rest, end, RECORD_DIGITS) {
+            return Records::Faulty(line as u32);
+        }
+        put_record(table, RECORD_BYTES * n, &rest[..end]);
+        let next = after_line(rest, end);
+        rest = next;
+        n += 1;
+    }
+    Records::Read(n)
+}
+
+// Reads the source and the table into their buffers.
+pub fn read_frame(input: &[u8], source: &mut [u8], table: &mut [u8]) -> Frame
+    requires { ⌜ (length (now source) ≡ mostBytes) × (length (now table) ≡ tableRoom) ⌝ }
+    ensures { λ r. ⌜ ReadFrame (lines (now (input .entry))) (now (source .exit)) (now (table .exit)) r ⌝ }
+{
+    let end = line_end(input);
+    if !is_source(input, end) {
+        return Frame::Unreadable(1);
+    }
+    let rest = after_line(input, end);
+    let offset_end = line_end(rest);
+    if !is_numbers(rest, offset_end, OFFSET_DIGITS) {
+        return Frame::Unreadable(2);
+    }
+    let records = after_line(rest, offset_end);
+    if records.len() == 0 {
+        return Frame::Unreadable(3);
+    }
+    match read_records(records, table) {
+        Records::Faulty(line) => Frame::Unreadable(line),
+        Records::Read(n) => {
+            read_source(&input[..end], source);
+            Frame::Given(end / 2, number(&rest[..offset_end]), n)
+        }
+    }
+}

@@ -1,0 +1,78 @@
+-- What a turn of the walk over WITH items or column aliases writes.
+-- Assumes nothing.
+use Prim.Native.Nat.{ℕ, _+_, _≤_, _<_}
+use mathlib.Core.Path.{_≡_, refl, sym, _∙_}
+use mathlib.Core.Bool.{Bool, true, false, _||_}
+use mathlib.Core.List.{List, [], _++_}
+use native.Mathlib.Omega.{arith}
+use borrow.Author.Tests.{eqb-true}
+use lib.Dec.{eqb}
+use Rattle.table.specs.Kinds.{lastNode, withExpressionItem, columnList, expressionList, columnAlias}
+use Rattle.table.specs.Table.{count, kindAt, recordAt, records, part}
+use Rattle.table.specs.Forest.{Forest, nil, token, node, kids, stretchEnd}
+use Rattle.table.proofs.Laws.{head-part}
+use Rattle.names.specs.declared.names.Bound.{Bound}
+use Rattle.names.specs.declared.bindings.Binder.{Binder}
+use Rattle.names.specs.declared.bindings.Binder.the-variants.{Item, Alias}
+use Rattle.names.specs.Bindings.{entry, gathered, withItems, selectAliases}
+use Rattle.names.specs.inner.Binders.{binderKind, isList, binds, names}
+use Rattle.table.proofs.Fields.{kind-of}
+
+-- ---- bound names
+
+pub binder-node : (binder : Binder) {k : ℕ} {x : Bool} → x ≡ eqb k (binderKind binder) → x ≡ true → k ≤ lastNode
+unfolding binderKind
+binder-node Item {k} e y = omega (arith, eqb-true k withExpressionItem (sym e ∙ y))
+binder-node Alias {k} e y = omega (arith, eqb-true k columnAlias (sym e ∙ y))
+
+pub list-node : (binder : Binder) {k : ℕ} {x : Bool} → x ≡ isList binder k → x ≡ true → k ≤ lastNode
+unfolding isList
+list-node Item {k} e y = omega (arith, eqb-true k columnList (sym e ∙ y))
+list-node Alias {k} e y = go (eqb k columnList) (eqb k expressionList) refl refl (sym e ∙ y)
+  where
+    go : (a b : Bool) → eqb k columnList ≡ a → eqb k expressionList ≡ b → (a || b) ≡ true → k ≤ lastNode
+    go true b p q h = omega (arith, eqb-true k columnList p)
+    go false true p q h = omega (arith, eqb-true k expressionList q)
+    go false false p q h = absurd (let z : _≡_ {A = ℕ} 0 1 = cc in omega arith)
+
+module _ (binder : Binder) (src s : List ℕ) (base i : ℕ) (f : Forest) where
+  pub names-token : names binder src (token (recordAt s base i) f) ≡ names binder src f
+  unfolding gathered
+  names-token = refl
+
+  module _ {k : ℕ} (e : k ≡ kindAt s i) where
+    kind-eqb : {x : Bool} → x ≡ eqb k (binderKind binder) → eqb (recordAt s base i .kind) (binderKind binder) ≡ x
+    kind-eqb q = rw (kind-of s base i, ← e) (sym q)
+
+    kind-list : {x : Bool} → x ≡ isList binder k → isList binder (recordAt s base i .kind) ≡ x
+    kind-list q = rw (kind-of s base i, ← e) (sym q)
+
+    pub names-bind : {x : Bool} {b : Bound} {p : List ℕ} → i < count s → p ≡ part s i (stretchEnd s i) → x ≡ eqb k (binderKind binder) → x ≡ true
+        → b ≡ binds binder src (recordAt p (base + i) 0) (kids (records (base + i) p))
+        → names binder src (node (recordAt s base i) (kids (records (base + i) p)) f) ≡ entry b ++ names binder src f
+    unfolding gathered
+    names-bind h q x y b = rw (kind-eqb x ∙ y, b, head-part s base i h q)
+
+    pub names-list : {x y : Bool} (below : Forest) → x ≡ eqb k (binderKind binder) → x ≡ false → y ≡ isList binder k → y ≡ true
+        → names binder src (node (recordAt s base i) below f) ≡ names binder src below ++ names binder src f
+    unfolding gathered
+    names-list below x n y t = rw (kind-eqb x ∙ n, kind-list y ∙ t)
+
+    pub names-over : {x y : Bool} (below : Forest) → x ≡ eqb k (binderKind binder) → x ≡ false → y ≡ isList binder k → y ≡ false
+        → names binder src (node (recordAt s base i) below f) ≡ names binder src f
+    unfolding gathered
+    names-over below x n y t = rw (kind-eqb x ∙ n, kind-list y ∙ t)
+
+pub names-none : (binder : Binder) (src : List ℕ) → names binder src nil ≡ []
+unfolding gathered
+names-none binder src = refl
+
+-- ---- the walks of WITH items and of column aliases
+
+pub names-item : (src : List ℕ) (f : Forest) → names Item src f ≡ withItems src f
+unfolding binderKind isList binds
+names-item src f = refl
+
+pub names-alias : (src : List ℕ) (f : Forest) → names Alias src f ≡ selectAliases src f
+unfolding binderKind isList binds
+names-alias src f = refl

@@ -1,0 +1,45 @@
+-- What the items of a WITH clause and the aliases of a SELECT clause bind, and their entries.
+-- src is the source's bytes.
+-- Definitions only.
+use Prim.Native.Nat.{ℕ}
+use mathlib.Core.Bool.{Bool, cond, _||_}
+use mathlib.Core.List.{List, [], _∷_, _++_}
+use lib.Dec.{eqb}
+use Rattle.table.specs.declared.record.Rec.{Rec}
+use Rattle.table.specs.Kinds.{withExpressionItem, columnList, expressionList, columnAlias}
+use Rattle.table.specs.Forest.{Forest, nil, token, node}
+use Rattle.names.specs.declared.names.NameBinding.{NameBinding}
+use Rattle.names.specs.declared.names.Bound.{Bound}
+use Rattle.names.specs.declared.names.Bound.the-variants.{Unnamed, Named}
+use Rattle.names.specs.Names.{withItem, aliasIn}
+
+-- ---- WITH items and column aliases
+
+-- without a name there is no entry
+unfoldable pub entry : Bound → List NameBinding
+entry Unnamed = []
+entry (Named b) = b ∷ []
+
+-- what the siblings of one kind bind, also those in lists, at any nesting
+unfoldable pub gathered : ℕ → (ℕ → Bool) → (Rec → Forest → Bound) → Forest → List NameBinding
+gathered kind isList bind nil = []
+gathered kind isList bind (token r rest) = gathered kind isList bind rest
+gathered kind isList bind (node r below rest) =
+    let inside : List NameBinding = gathered kind isList bind below in
+    let through : List NameBinding = cond (isList (r .kind)) inside [] in
+    cond (eqb (r .kind) kind) (entry (bind r below)) through ++ gathered kind isList bind rest
+
+-- the items of a With, also through ColumnList
+abbrev pub withItems : List ℕ → Forest → List NameBinding
+withItems src = gathered withExpressionItem (λ k. eqb k columnList) (withItem src)
+
+-- the column aliases of a Select, also through ColumnList and ExpressionList
+abbrev pub selectAliases : List ℕ → Forest → List NameBinding
+selectAliases src = gathered columnAlias (λ k. eqb k columnList || eqb k expressionList) (aliasIn src)
+
+-- a binding: token, name, definition ranges
+abbrev pub bindingRow : NameBinding → List ℕ
+bindingRow e = e .token .start ∷ e .token .end ∷ e .name .start ∷ e .name .end ∷ e .definition .start ∷ e .definition .end ∷ []
+
+abbrev pub bindingBytes : ℕ
+bindingBytes = 24

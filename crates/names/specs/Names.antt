@@ -1,0 +1,85 @@
+-- Names in a source: which tokens are names, their ranges, and the names without their quotes.
+-- src is the source's bytes. A range that has no name is absent.
+-- Definitions only.
+use Prim.Native.Nat.{ℕ, _+_, _-_}
+use mathlib.Core.Bool.{Bool, cond, not, _&&_, _||_}
+use mathlib.Core.List.{List, [], _∷_}
+use lib.Dec.{leb, eqb}
+use lib.ListN.{getD}
+use Rattle.table.specs.declared.record.Rec.{Rec}
+use Rattle.table.specs.Kinds.{bareWord, quotedIdentifier}
+use Rattle.table.specs.Forest.{Forest, nil, token, node}
+use Rattle.table.specs.Text.{bytesOf, text, says}
+use Rattle.table.specs.declared.range.Range.{Range}
+use Rattle.names.specs.declared.names.NameBinding.{NameBinding}
+use Rattle.names.specs.declared.names.Bound.{Bound}
+use Rattle.names.specs.declared.names.Bound.the-variants.{Unnamed, Named}
+use Rattle.table.specs.Ranges.{span}
+
+-- ---- which tokens are names
+
+-- byte i of the source
+abbrev pub byteAt : List ℕ → ℕ → ℕ
+byteAt src i = getD src i 0
+
+-- the token's text is AS in any ASCII case
+unfoldable pub isAs : List ℕ → Rec → Bool
+isAs src t = says (bytesOf "AS") (text src (t .start) (t .end))
+
+-- a part of a table's name is a BareWord or a Quoted
+unfoldable pub isPart : Rec → Bool
+isPart t = eqb (t .kind) bareWord || eqb (t .kind) quotedIdentifier
+
+-- a WITH name or an alias is a Quoted, or a BareWord that is not AS
+unfoldable pub isName : List ℕ → Rec → Bool
+isName src t = eqb (t .kind) quotedIdentifier || (eqb (t .kind) bareWord && not (isAs src t))
+
+-- the direct tokens of a node with these children that a test holds of, in order
+unfoldable pub direct : (Rec → Bool) → Forest → List Rec
+direct test nil = []
+direct test (token t rest) =
+    let on : List Rec = direct test rest in
+    let more : List Rec = t ∷ on in
+    cond (test t) more on
+direct test (node r below rest) = direct test rest
+
+-- ---- names without their quotes
+
+-- a backtick or a double quote
+abbrev pub isMark : ℕ → Bool
+isMark b = eqb b 96 || eqb b 34
+
+-- the text between start and end without a matching pair of marks; a lone mark is kept
+unfoldable pub unquoted : List ℕ → ℕ → ℕ → Range
+unquoted src start end =
+    let inner : Range = record { start = start + 1; end = end - 1 } in
+    let whole : Range = record { start = start; end = end } in
+    cond (leb 2 (end - start) && (isMark (byteAt src start) && eqb (byteAt src (end - 1)) (byteAt src start))) inner whole
+
+-- the name that a token gives: a Quoted loses its quotes
+unfoldable pub nameOf : List ℕ → Rec → Range
+nameOf src t = cond (eqb (t .kind) quotedIdentifier) (unquoted src (t .start) (t .end)) (span t)
+
+-- ---- what a node binds
+
+-- the name token t in the node r: token, name and definition
+unfoldable pub binding : List ℕ → Rec → Rec → NameBinding
+binding src r t = record { token = span t; name = nameOf src t; definition = span r }
+
+-- the node r binds the first of these name tokens
+unfoldable pub firstOf : List ℕ → Rec → List Rec → Bound
+firstOf src r [] = Unnamed
+firstOf src r (t ∷ more) = Named (binding src r t)
+
+-- the node r binds the last of these name tokens, or b where there is none
+unfoldable pub lastOf : List ℕ → Rec → Bound → List Rec → Bound
+lastOf src r b [] = b
+lastOf src r b (t ∷ more) = lastOf src r (Named (binding src r t)) more
+
+-- a WITH item r with these children: its first direct name
+abbrev pub withItem : List ℕ → Rec → Forest → Bound
+withItem src r below = firstOf src r (direct (isName src) below)
+
+-- an alias r with these children: its last direct name
+abbrev pub aliasIn : List ℕ → Rec → Forest → Bound
+aliasIn src r below = lastOf src r Unnamed (direct (isName src) below)

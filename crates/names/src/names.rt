@@ -1,0 +1,154 @@
+// Names in a source: which tokens are names, and what a name is without its quotes.
+use table::kinds::BARE_WORD;
+use table::kinds::QUOTED_IDENTIFIER;
+use table::range::Range;
+use table::range::span_of;
+use table::record::Rec;
+use table::record::count_of;
+use table::record::record_at;
+use table::stretch::child_from;
+use table::text::says;
+use table::text::text_of;
+ghost use mathlib.Core.Path.{_≡_};
+ghost use mathlib.Core.Bool.{cond};
+ghost use Prim.Native.Nat.{_+_, _≤_, _<_};
+ghost use Rattle.table.specs.Table.{count, recordAt, records};
+ghost use Rattle.table.specs.Forest.{kids};
+ghost use Rattle.table.specs.Rules.{mostRecords};
+ghost use Rattle.names.specs.Names.{byteAt, isAs, isPart, isName, isMark, unquoted, nameOf, binding, withItem, aliasIn};
+
+// A name that a WITH item, a table alias or a column alias binds.
+pub struct NameBinding {
+    pub token: Range,
+    pub name: Range,
+    pub definition: Range,
+}
+
+// What a node binds.
+pub enum Bound {
+    Unnamed,
+    Named(NameBinding),
+}
+
+// Byte i of the source: no span can lead outside it.
+fn byte_at(source: &[u8], i: usize) -> u8
+    ensures { λ r. ⌜ r ≡ byteAt (now (source .entry)) i ⌝ }
+{
+    if i < source.len() { source[i] } else { 0 }
+}
+
+fn is_as(source: &[u8], t: Rec) -> bool
+    ensures { λ x. ⌜ x ≡ isAs (now (source .entry)) t ⌝ }
+{
+    says(b"AS", text_of(source, t.start, t.end))
+}
+
+pub fn is_part(t: Rec) -> bool
+    ensures { λ x. ⌜ x ≡ isPart t ⌝ }
+{
+    (t.kind == BARE_WORD) | (t.kind == QUOTED_IDENTIFIER)
+}
+
+fn is_name(source: &[u8], t: Rec) -> bool
+    ensures { λ x. ⌜ x ≡ isName (now (source .entry)) t ⌝ }
+{
+    if t.kind == QUOTED_IDENTIFIER {
+        return true;
+    }
+    if t.kind == BARE_WORD {
+        return !is_as(source, t);
+    }
+    false
+}
+
+fn is_mark(b: u8) -> bool
+    ensures { λ r. ⌜ r ≡ isMark b ⌝ }
+{
+    (b == b'`') | (b == b'"')
+}
+
+// Strips a matching pair of backticks or double quotes.
+fn unquote(source: &[u8], start: usize, end: usize) -> Range
+    ensures { λ r. ⌜ r ≡ unquoted (now (source .entry)) start end ⌝ }
+{
+    if end < start {
+        return Range { start, end };
+    }
+    if end - start < 2 {
+        return Range { start, end };
+    }
+    let mark = byte_at(source, start);
+    let last = byte_at(source, end - 1);
+    if is_mark(mark) & (last == mark) {
+        Range {
+            start: start + 1,
+            end: end - 1,
+        }
+    } else {
+        Range { start, end }
+    }
+}
+
+fn name_of(source: &[u8], t: Rec) -> Range
+    ensures { λ r. ⌜ r ≡ nameOf (now (source .entry)) t ⌝ }
+{
+    if t.kind == QUOTED_IDENTIFIER {
+        unquote(source, t.start, t.end)
+    } else {
+        span_of(t)
+    }
+}
+
+fn binding_of(source: &[u8], r: Rec, t: Rec) -> NameBinding
+    ensures { λ x. ⌜ x ≡ binding (now (source .entry)) r t ⌝ }
+{
+    NameBinding {
+        token: span_of(t),
+        name: name_of(source, t),
+        definition: span_of(r),
+    }
+}
+
+// What a WITH item, the first record of the stretch s, binds: its first name.
+pub fn extract_cte(s: &[u8], base: usize, source: &[u8]) -> Bound
+    requires { ⌜ (0 < count (now s)) × (base + count (now s) ≤ mostRecords) ⌝ }
+    ensures { λ r. ⌜ r ≡ withItem (now (source .entry)) (recordAt (now (s .entry)) base 0) (kids (records base (now (s .entry)))) ⌝ }
+{
+    let m = count_of(s);
+    let mut i = child_from(s, 1);
+    while i < m {
+        let t = record_at(s, base, i);
+        if is_name(source, t) {
+            return Bound::Named(binding_of(source, record_at(s, base, 0), t));
+        }
+        i = child_from(s, i + 1);
+    }
+    Bound::Unnamed
+}
+
+// What the node r binds after its token t, where it bound b before.
+fn later(source: &[u8], r: Rec, b: Bound, t: Rec) -> Bound
+    ensures { λ x. ⌜ x ≡ cond (isName (now (source .entry)) t) (Bound.Named (binding (now (source .entry)) r t)) b ⌝ }
+{
+    if is_name(source, t) {
+        Bound::Named(binding_of(source, r, t))
+    } else {
+        b
+    }
+}
+
+// What an alias, the first record of the stretch s, binds: its last name.
+pub fn extract_alias_name(s: &[u8], base: usize, source: &[u8]) -> Bound
+    requires { ⌜ (0 < count (now s)) × (base + count (now s) ≤ mostRecords) ⌝ }
+    ensures { λ r. ⌜ r ≡ aliasIn (now (source .entry)) (recordAt (now (s .entry)) base 0) (kids (records base (now (s .entry)))) ⌝ }
+{
+    let m = count_of(s);
+    let r = record_at(s, base, 0);
+    let mut last = Bound::Unnamed;
+    let mut i = child_from(s, 1);
+    while i < m {
+        last = later(source, r, last, record_at(s, base, i));
+        i = child_from(s, i + 1);
+    }
+    last
+}

@@ -1,0 +1,3 @@
+// The scope at the cursor: its root, and the lists that are offered there.
+pub mod offers;
+pub mod root;

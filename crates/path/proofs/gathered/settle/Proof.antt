@@ -1,0 +1,14 @@
+use Rattle.path.proofs.Steps.{settles}
+use Rattle.path.specs.inner.Gathered.{settled}
+use borrow.Author.Needs.{needs}
+use Rattle.path.proofs.gathered.settle.Statement.{statement}
+use Rattle.path.proofs.gathered.settle.Tie as tie
+
+pub settle-spec : {M : Type 1} → statement M
+settle-spec =
+    tie.close
+    (tie.spec
+    (λ c κs. search needs)  -- decides-requires
+    (λ c κs. search needs)  -- chosen-requires
+    (λ c κs. search needs)  -- chosen-requires-2
+    (λ c. settles _ _ _ (unfold settled in simp (c .before .before .decides .ensures, c .before .chosen .ensures, c .chosen2 .ensures))))  -- returns

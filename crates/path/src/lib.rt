@@ -1,0 +1,3 @@
+// The path to an offset, and what it gathers.
+pub mod gathered;
+pub mod path;

@@ -1,0 +1,52 @@
+// The path: from record 0 down to the offset.
+use crate::gathered::Gathered;
+use crate::gathered::NOTHING;
+use crate::gathered::Next;
+use crate::gathered::chosen;
+use crate::gathered::enter;
+use crate::gathered::settle;
+use table::range::is_holder;
+use table::record::count_of;
+use table::record::kind_at;
+use table::stretch::child_from;
+use table::stretch::rest_from;
+ghost use mathlib.Core.Path.{_≡_};
+ghost use Prim.Native.Nat.{_+_, _<_};
+ghost use Rattle.table.specs.Table.{count};
+ghost use Rattle.path.specs.Path.{pathAt};
+ghost use Rattle.path.specs.inner.Gathered.{Within, gathered};
+
+// The way from record 0, which is on it whatever its span, down to the offset. `child` is the first that holds it, 0 for none
+// yet: it ends the walk.
+pub fn find_node_path(table: &[u8], offset: usize) -> Gathered
+    requires { ⌜ (0 < count (now table)) × (count (now table) < 4294967296) ⌝ }
+    ensures { λ r. ⌜ (r ≡ gathered (pathAt (now (table .entry)) offset)) × Within (count (now (table .entry))) r ⌝ }
+{
+    let mut g = enter(NOTHING, kind_at(table, 0), 0);
+    let mut s = table;
+    let mut base = 0;
+    'descent: loop {
+        let m = count_of(s);
+        let mut child = 0;
+        let mut i = child_from(s, 1);
+        let found = loop {
+            if i >= m {
+                break child;
+            }
+            child = chosen(is_holder(s, i, offset), i, child);
+            if 0 < child {
+                break child;
+            }
+            i = child_from(s, i + 1);
+        };
+        if found == 0 {
+            break 'descent;
+        }
+        let kind = kind_at(s, found);
+        let part = rest_from(s, found);
+        base += found;
+        g = enter(g, kind, base);
+        s = part;
+    }
+    settle(g, Next::Deepest)
+}

@@ -1,0 +1,221 @@
+-- What the replies of the questions say where the table is admitted, and how much room their lists need.
+--     statement-found, ..   the statement: no refusal
+--     list-given, ..        a list that is answered, and one that is not
+--     classes-fit, ..       classes and openers: no more than records
+-- Assumes nothing.
+use Prim.Native.Nat.{ℕ, zero, suc, _+_, _*_, _≤_}
+use mathlib.Core.Path.{_≡_, refl, sym, ap, _∙_}
+use mathlib.Core.Bool.{Bool, true, false, cond}
+use mathlib.Core.List.{List, [], _∷_, _++_, map, reverse}
+use native.Mathlib.Omega.{arith}
+use lib.Dec.{ltb, eqb}
+use lib.ListN.{length, drop, length-append, length-map, length-reverse}
+use borrow.Author.Tests.{ltb-false, le-ltb}
+use Rattle.table.specs.declared.record.Rec.{Rec}
+use Rattle.table.specs.declared.check.Verdict.{Verdict}
+use Rattle.table.specs.declared.check.Verdict.the-variants.{Admitted, Refused}
+use Rattle.table.specs.declared.list.Listed.the-variants.{Entries, Refused as Unlisted}
+use Rattle.table.specs.Table.{count, kindAt, recordAt, records, run, from}
+use Rattle.table.specs.Forest.{Forest, nil, token, node, kids}
+use Rattle.table.specs.Sense.{treeOf, inOrder, byDepth}
+use Rattle.table.specs.Rules.{Rule, rules, rootRules, first, verdict}
+use Rattle.table.specs.Lists.{numberBytes, listBytes, roomRule, listVerdict, reply, buffer, listed, lent}
+use Rattle.table.proofs.Checks.{then-admitted}
+use Rattle.table.proofs.Writes.{length-wide}
+use Rattle.table.proofs.Sense.{admitted-tidy, whole-tree}
+use Rattle.statement.specs.declared.statement.Enclosing.{Enclosing}
+use Rattle.statement.specs.declared.statement.Enclosing.the-variants.{Outside, Record}
+use Rattle.statement.specs.declared.statement.StatementReply.the-variants.{Statement, NoStatement, Refused as Unstated}
+use Rattle.scope.specs.declared.semantic_tokens.TokenClass.{TokenClass}
+use Rattle.statement.specs.Statement.{told, statementReply}
+use Rattle.scope.specs.Classes.{numberOf, entryOf, classOf, classes, classesOf}
+use Rattle.scope.specs.declared.semantic_tokens.TokenClass.the-variants.{Unclassed}
+use Rattle.brackets.specs.Brackets.{isOpener, isCloser, fits, closed, stepped, left, stackLeft, indexOf, openersLeft}
+use Rattle.tables.specs.Tables.{referenceRow}
+use Rattle.scope.specs.Scope.{tableRefs}
+use Rattle.report.specs.Output.{printedList, referenceLines, answeredBy, answered, refusalLine, referenceRoom, questionVerdict, unlessRefused, replied}
+use Rattle.report.specs.inner.Writing.{printedWords}
+use Rattle.report.proofs.Writing.{printed-are}
+
+-- ---- the statement
+
+-- a verdict does not both admit and refuse
+pub never-both : {v : Verdict} {k d : ℕ} → Admitted ≡ v → Refused k d ≡ v → ⊥
+never-both a r = let z : _≡_ {A = ℕ} 0 1 = cc in omega arith
+
+pub statement-found : (v : Verdict) (x : Enclosing) → Admitted ≡ v → {n : ℕ} → Statement n ≡ statementReply v x → x ≡ Record n
+unfolding statementReply told
+statement-found Admitted Outside a e = absurd (let z : _≡_ {A = ℕ} 0 1 = cc in omega arith)
+statement-found Admitted (Record m) a e = cc
+statement-found (Refused k d) x a e = absurd (let z : _≡_ {A = ℕ} 0 1 = cc in omega arith)
+
+pub statement-none : (v : Verdict) (x : Enclosing) → Admitted ≡ v → NoStatement ≡ statementReply v x → x ≡ Outside
+unfolding statementReply told
+statement-none Admitted Outside a e = refl
+statement-none Admitted (Record m) a e = absurd (let z : _≡_ {A = ℕ} 0 1 = cc in omega arith)
+statement-none (Refused k d) x a e = absurd (let z : _≡_ {A = ℕ} 0 1 = cc in omega arith)
+
+pub statement-denied : (v : Verdict) (x : Enclosing) → Admitted ≡ v → {k d : ℕ} → Unstated k d ≡ statementReply v x → ⊥
+unfolding statementReply told
+statement-denied Admitted Outside a e = let z : _≡_ {A = ℕ} 0 1 = cc in omega arith
+statement-denied Admitted (Record m) a e = let z : _≡_ {A = ℕ} 0 1 = cc in omega arith
+statement-denied (Refused k d) x a e = let z : _≡_ {A = ℕ} 0 1 = cc in omega arith
+
+-- ---- a list
+
+entries-is : (v : Verdict) (m : ℕ) {n : ℕ} → Entries n ≡ reply v m → (Admitted ≡ v) × (n ≡ m)
+unfolding reply
+entries-is Admitted m e = (refl, cc)
+entries-is (Refused k d) m e = absurd (let z : _≡_ {A = ℕ} 0 1 = cc in omega arith)
+
+denied-is : (v : Verdict) (m : ℕ) {k d : ℕ} → Unlisted k d ≡ reply v m → Refused k d ≡ v
+unfolding reply
+denied-is Admitted m e = absurd (let z : _≡_ {A = ℕ} 0 1 = cc in omega arith)
+denied-is (Refused k′ d′) m e = cc
+
+-- rules that admit together admit in part
+pub admitted-first : (rs more : List Rule) → Admitted ≡ first (rs ++ more) → Admitted ≡ first rs
+admitted-first [] more a = refl
+admitted-first (r ∷ rs) more a = go (r .broken) refl (admitted-first rs more)
+  where
+    go : (b : Bool) → r .broken ≡ b → (Admitted ≡ first (rs ++ more) → Admitted ≡ first rs) → Admitted ≡ first (r ∷ rs)
+    go true e ih = absurd (never-both (rw e at a) refl)
+    go false e ih = rw e (ih (rw e at a))
+
+module _ {E : Type 0} (row : E → List ℕ) (rs : List Rule) (es : List E) (out : List ℕ) where
+  pub list-given : {n : ℕ} → Entries n ≡ listed rs row es out → (Admitted ≡ listVerdict rs row es out) × (n ≡ length es)
+  unfolding listed
+  list-given e = entries-is (listVerdict rs row es out) (length es) e
+
+  pub list-denied : {k d : ℕ} → Unlisted k d ≡ listed rs row es out → Refused k d ≡ listVerdict rs row es out
+  unfolding listed
+  list-denied e = denied-is (listVerdict rs row es out) (length es) e
+
+  pub list-bytes : Admitted ≡ listVerdict rs row es out → lent rs row es out ≡ listBytes row es ++ drop (length (listBytes row es)) out
+  unfolding lent buffer
+  list-bytes a = rw (← a)
+
+  pub list-room : Admitted ≡ listVerdict rs row es out → length (listBytes row es) ≤ length out
+  list-room a = go (ltb (length out) (length (listBytes row es))) refl
+    where
+      go : (b : Bool) → ltb (length out) (length (listBytes row es)) ≡ b → length (listBytes row es) ≤ length out
+      go true e = absurd (never-both (rw e at (a ∙ then-admitted rs (roomRule row es out ∷ []) (admitted-first rs (roomRule row es out ∷ []) a))) refl)
+      go false e = ltb-false (length out) (length (listBytes row es)) e
+
+  -- a list that has room is not refused where its question is not
+  pub list-not-denied : Admitted ≡ first rs → length (listBytes row es) ≤ length out → {k d : ℕ} → Unlisted k d ≡ listed rs row es out → ⊥
+  list-not-denied a h e = never-both refl (rw (le-ltb (length out) (length (listBytes row es)) h) at (list-denied e ∙ then-admitted rs (roomRule row es out ∷ []) a))
+
+-- a list whose entries have w numbers each
+module _ {E : Type 0} (row : E → List ℕ) (w : ℕ) (wide : (e : E) → length (row e) ≡ w) where
+  pub list-size : (es : List E) → length (listBytes row es) ≡ length es * (numberBytes * w)
+  list-size es = length-wide row (numberBytes * w) (λ e. ap (λ (x : ℕ). numberBytes * x) (wide e)) es
+
+  -- where it is answered, it is read back from its buffer
+  pub list-read : (rs : List Rule) (es : List E) (out : List ℕ) {n : ℕ} {list : List ℕ} → Entries n ≡ listed rs row es out → list ≡ lent rs row es out
+      → (n ≡ length es) × (n * (numberBytes * w) ≤ length list) × (n * (numberBytes * w) ≤ length out)
+      × ((letter k : ℕ) → printedWords letter k w list 0 n ≡ printedList letter k (map row es))
+  list-read rs es out {n} {list} e q =
+      let g = list-given row rs es out e in
+      let b : list ≡ listBytes row es ++ drop (length (listBytes row es)) out = q ∙ list-bytes row rs es out (g .0) in
+      let m : n * (numberBytes * w) ≡ length (listBytes row es) = rw (g .1) (sym (list-size es)) in (
+        g .1,
+        omega (arith, m, ap length b, length-append (listBytes row es) (drop (length (listBytes row es)) out)),
+        omega (arith, m, list-room row rs es out (g .0)),
+        λ letter k. rw (b, g .1) (printed-are letter k w row wide es (drop (length (listBytes row es)) out)),
+      )
+
+-- ---- the verdict on a frame's table
+
+module _ (src t out : List ℕ) (z : length out ≡ referenceRoom) where
+  same-verdict : listVerdict (rootRules t (length src) 0) referenceRow (tableRefs src t 0) out ≡ questionVerdict src t
+  unfolding questionVerdict
+  same-verdict = rw z
+
+  pub question-refused : (o : ℕ) {k d : ℕ} → Unlisted k d ≡ listed (rootRules t (length src) 0) referenceRow (tableRefs src t 0) out → replied src t o ≡ refusalLine k d
+  unfolding unlessRefused
+  question-refused o e = rw (← (list-denied referenceRow (rootRules t (length src) 0) (tableRefs src t 0) out e ∙ same-verdict))
+
+  module _ {n : ℕ} (e : Entries n ≡ listed (rootRules t (length src) 0) referenceRow (tableRefs src t 0) out) where
+    admitted : Admitted ≡ listVerdict (rootRules t (length src) 0) referenceRow (tableRefs src t 0) out
+    admitted = list-given referenceRow (rootRules t (length src) 0) (tableRefs src t 0) out e .0
+
+    pub question-admitted : Admitted ≡ verdict t (length src) 0
+    unfolding verdict
+    question-admitted = admitted-first (rules t (length src) 0) _ (admitted-first (rootRules t (length src) 0) _ admitted)
+
+    pub question-answered : (o : ℕ) {lines : List ℕ} → lines ≡ referenceLines src t → replied src t o ≡ answeredBy src t o lines
+    unfolding unlessRefused answered
+    question-answered o q = rw (← (admitted ∙ same-verdict), q)
+
+-- ---- how many entries
+
+run-length : (t : List ℕ) (base i n : ℕ) → length (run t base i n) ≡ n
+unfolding run
+run-length t base i zero = refl
+run-length t base i (suc n) = ap suc (run-length t base (i + 1) n)
+
+linked-length : (t : List ℕ) (rs : List Rec) → length (byDepth t rs) ≡ length rs
+unfolding byDepth
+linked-length t [] = refl
+linked-length t (r ∷ rs) = ap suc (linked-length t rs)
+
+entry-one : (c : TokenClass) (s e : ℕ) → length (entryOf c s e) ≤ 1
+unfolding entryOf
+entry-one c s e = go (eqb (numberOf c) (numberOf Unclassed)) refl
+  where
+    go : (b : Bool) → eqb (numberOf c) (numberOf Unclassed) ≡ b → length (entryOf c s e) ≤ 1
+    go true q = rw q (omega arith)
+    go false q = rw q (omega arith)
+
+classes-below : (src : List ℕ) (k p : ℕ) (f : Forest) → length (classes src k f) ≤ length (inOrder p f)
+unfolding classes inOrder
+classes-below src k p nil = omega arith
+classes-below src k p (token r rest) =
+    omega (arith, length-append (entryOf (classOf src k (r .kind) (r .start) (r .end)) (r .start) (r .end)) (classes src k rest), entry-one (classOf src k (r .kind) (r .start) (r .end)) (r .start) (r .end), classes-below src k p rest)
+classes-below src k p (node r below rest) =
+    omega (arith, length-append (classes src (r .kind) below) (classes src k rest), length-append (inOrder (r .index) below) (inOrder p rest), classes-below src (r .kind) (r .index) below, classes-below src k p rest)
+
+closed-less : (stack : List Rec) (c : ℕ) → length (closed stack c) ≤ length stack
+unfolding closed
+closed-less [] c = omega arith
+closed-less (o ∷ stack) c = go (fits (o .kind) c) refl
+  where
+    go : (b : Bool) → fits (o .kind) c ≡ b → length (cond (fits (o .kind) c) stack (o ∷ stack)) ≤ suc (length stack)
+    go true e = rw e (omega arith)
+    go false e = rw e (omega arith)
+
+stepped-one : (stack : List Rec) (r : Rec) → length (stepped stack r) ≤ suc (length stack)
+unfolding stepped
+stepped-one stack r = go (isOpener (r .kind)) refl (isCloser (r .kind)) refl
+  where
+    go : (b : Bool) → isOpener (r .kind) ≡ b → (d : Bool) → isCloser (r .kind) ≡ d → length (stepped stack r) ≤ suc (length stack)
+    go true e d q = rw e (omega arith)
+    go false e true q = rw (e, q) (omega (arith, closed-less stack (r .kind)))
+    go false e false q = rw (e, q) (omega arith)
+
+left-below : (stack : List Rec) (p : ℕ) (f : Forest) → length (left stack f) ≤ length stack + length (inOrder p f)
+unfolding left inOrder
+left-below stack p nil = omega arith
+left-below stack p (token r rest) = omega (arith, left-below (stepped stack r) p rest, stepped-one stack r)
+left-below stack p (node r below rest) =
+    omega (arith, left-below (left stack below) p rest, left-below stack (r .index) below, length-append (inOrder (r .index) below) (inOrder p rest))
+
+module _ (t : List ℕ) (n : ℕ) (a : Admitted ≡ verdict t n 0) where
+  tree-length : length (inOrder 0 (treeOf t)) ≡ count t
+  unfolding from
+  tree-length =
+      ap length (whole-tree t n (admitted-tidy t n 0 (sym a))) ∙ linked-length t (records 0 t) ∙ run-length t 0 0 _ ∙ omega arith
+
+  kids-few : length (inOrder (recordAt t 0 0 .index) (kids (records 0 t))) ≤ count t
+  kids-few = omega (arith, tree-length, whole, length-append (inOrder (recordAt t 0 0 .index) (kids (records 0 t))) (inOrder 0 nil))
+    where
+      whole : length (inOrder 0 (treeOf t)) ≡ suc (length (inOrder (recordAt t 0 0 .index) (kids (records 0 t)) ++ inOrder 0 nil))
+      whole = (unfold inOrder in refl)
+
+  pub classes-few : (src : List ℕ) → length (classesOf src t) ≤ count t
+  classes-few src = omega (arith, classes-below src (kindAt t 0) (recordAt t 0 0 .index) (kids (records 0 t)), kids-few)
+
+  pub openers-few : length (openersLeft t) ≤ count t
+  openers-few =
+      omega (arith, length-map (reverse (stackLeft t)) indexOf, length-reverse (stackLeft t), left-below [] (recordAt t 0 0 .index) (kids (records 0 t)), kids-few)

@@ -1,0 +1,2 @@
+// The answers to a frame as text.
+pub mod output;

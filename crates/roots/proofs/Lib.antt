@@ -1,0 +1,5 @@
+pub mod AllRoots
+pub mod Apart
+pub mod Counts
+pub mod Exact
+pub mod Offered

@@ -1,0 +1,2 @@
+pub mod AllRoots
+pub mod Reach

@@ -1,0 +1,36 @@
+-- How one walk serves the four lists: its entries are rows of numbers, and which list is asked for says what is a node's own part.
+-- Definitions only. A reader of the questions needs none of them.
+use Prim.Native.Nat.{ℕ, _*_}
+use mathlib.Core.List.{List, map}
+use Rattle.table.specs.Forest.{Forest}
+use Rattle.table.specs.Rules.{mostRecords}
+use Rattle.scope.specs.declared.collection.Asked.{Asked}
+use Rattle.scope.specs.declared.collection.Asked.the-variants.{WithNames, TableAliases, ColumnAliases, TableRefs}
+use Rattle.tables.specs.declared.tables.Reads.the-variants.{Aliases, References}
+use Rattle.scope.specs.Collection.{ownWith, ownColumns, ownTables}
+use Rattle.tables.specs.Tables.{referenceBytes}
+use Rattle.names.specs.Bindings.{bindingBytes, bindingRow}
+use Rattle.scope.specs.Scope.{collectionAt}
+use Rattle.tables.specs.inner.Rows.{rowsOf, readBytes}
+
+-- a node's own part
+unfoldable pub ownRows : Asked → List ℕ → ℕ → Forest → List (List ℕ)
+ownRows WithNames src k below = map bindingRow (ownWith src k below)
+ownRows TableAliases src k below = ownTables (rowsOf Aliases) src k below
+ownRows ColumnAliases src k below = map bindingRow (ownColumns src k below)
+ownRows TableRefs src k below = ownTables (rowsOf References) src k below
+
+-- the list of record i
+abbrev pub rowsAt : Asked → List ℕ → List ℕ → ℕ → List (List ℕ)
+rowsAt asked src = collectionAt (ownRows asked src)
+
+-- how many bytes an entry has
+unfoldable pub width : Asked → ℕ
+width WithNames = bindingBytes
+width TableAliases = bindingBytes
+width ColumnAliases = bindingBytes
+width TableRefs = referenceBytes
+
+-- how many bytes a node's own part takes at most
+abbrev pub mostBytes : ℕ
+mostBytes = readBytes * mostRecords

@@ -1,0 +1,2 @@
+// The statement that encloses an offset.
+pub mod statement;

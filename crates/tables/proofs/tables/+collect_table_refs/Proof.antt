@@ -1,0 +1,187 @@
+use Rattle.tables.proofs.Turns.{read-token, read-name, read-alias, read-table, read-join, read-other, read-end}
+use Rattle.tables.specs.inner.Rows.{same, rowsOf}
+use Rattle.tables.specs.Tables.{reading}
+use Rattle.tables.specs.declared.pending.Pending.the-variants.{Nothing}
+use Rattle.table.proofs.Writes.{written-none, written-then, writing, writing-turn, writing-last}
+use Rattle.table.proofs.Walks.{Walk, walk-start, walk-end, walk-next, walk-node}
+use Rattle.table.specs.Forest.{kids}
+use Rattle.table.specs.Table.{records}
+use lib.ListN.{length}
+use mathlib.Core.Path.{_≡_}
+use Prim.Native.Nat.{_+_, _-_, _*_, _≤_, ℕ, _<_}
+use native.Mathlib.Omega.{arith}
+use borrow.Fn.Kinds.{In}
+use borrow.Fn.PlainCycle.{Measures, is, falls, and}
+use Rattle.tables.proofs.tables.+collect_table_refs.{statement}
+use Rattle.tables.proofs.tables.+collect_table_refs.Tie.{close}
+use Rattle.tables.proofs.tables.collect_table_refs.Reads as collect-table-refs
+use Rattle.tables.proofs.tables.collect_table_refs.Kinds as collect-table-refs-kinds
+use Rattle.tables.proofs.tables.+collect_table_refs.Lts-collect_table_refs as collect-table-refs-lts
+use Rattle.names.proofs.names.extract_alias_name.Reads as extract-alias-name-reads
+use Rattle.tables.proofs.pending.extract_table_identifier.Reads as extract-table-identifier-reads
+use Rattle.tables.proofs.tables.hand_on.Reads as hand-on-reads
+use Rattle.tables.proofs.tables.put_alias.Reads as put-alias-reads
+use Rattle.tables.proofs.pending.with_alias.Reads as with-alias-reads
+use Rattle.table.proofs.record.count_of.Reads as count-of-reads
+use Rattle.table.proofs.record.kind_at.Reads as kind-at-reads
+use Rattle.table.proofs.stretch.child_from.Reads as child-from-reads
+use Rattle.table.proofs.stretch.stretch_of.Reads as stretch-of-reads
+
+abbrev μ-collect-table-refs : Measures 3 collect-table-refs-kinds.ps ℕ
+μ-collect-table-refs κs a = length (a .1 .0 .now)
+
+abbrev collect-table-refs-at : ℕ → In 3 collect-table-refs-kinds.ps
+collect-table-refs-at t =
+    and
+    3
+    collect-table-refs-kinds.ps
+    (is 3 collect-table-refs-kinds.ps μ-collect-table-refs t)
+    collect-table-refs.Pre
+
+abbrev collect-table-refs-below : ℕ → In 3 collect-table-refs-kinds.ps
+collect-table-refs-below t =
+    and
+    3
+    collect-table-refs-kinds.ps
+    (falls 3 collect-table-refs-kinds.ps _<_ μ-collect-table-refs t)
+    collect-table-refs.Pre
+
+abbrev collect-table-refs-Inv-loop : collect-table-refs-lts.InvT-loop
+collect-table-refs-Inv-loop reads s base source out₀ at m next₀ pending₀ i₀ out next pending i =
+    ((1 ≤ i) × (i ≤ m) × (next + 56 ≤ at + 56 * i) × (length out ≡ length out₀))
+    × Walk s base i (writing same (reading (rowsOf reads) source pending) out next) (writing same (reading (rowsOf reads) source Nothing) out₀ at (kids (records base s)))
+
+abbrev collect-table-refs-μ-loop : collect-table-refs-lts.MeasureT-loop
+collect-table-refs-μ-loop reads s base source out₀ at m next₀ pending₀ i₀ out next pending i = m - i
+
+abbrev claims : ℕ → collect-table-refs-lts.Claims
+claims t = (
+  count-of-reads.Asked,
+  count-of-reads.Learnt,
+  child-from-reads.Asked,
+  child-from-reads.Learnt,
+  kind-at-reads.Asked,
+  kind-at-reads.Learnt,
+  stretch-of-reads.Asked,
+  stretch-of-reads.Learnt,
+  hand-on-reads.Asked,
+  hand-on-reads.Learnt,
+  extract-table-identifier-reads.Asked,
+  extract-table-identifier-reads.Learnt,
+  extract-alias-name-reads.Asked,
+  extract-alias-name-reads.Learnt,
+  put-alias-reads.Asked,
+  put-alias-reads.Learnt,
+  with-alias-reads.Asked,
+  with-alias-reads.Learnt,
+  collect-table-refs-below t,
+  collect-table-refs.Post,
+)
+
+module _ (t : ℕ) where
+  loop-holds : collect-table-refs-lts.Need-loop-holds (claims t) (collect-table-refs-at t) collect-table-refs.Post collect-table-refs-Inv-loop collect-table-refs-μ-loop
+  loop-holds c = (omega arith, walk-start _ _ (writing same (reading _ _ _) _ _) (omega arith) (c .child-from .ensures))
+
+  loop-again : collect-table-refs-lts.Need-loop-again (claims t) (collect-table-refs-at t) collect-table-refs.Post collect-table-refs-Inv-loop collect-table-refs-μ-loop
+  loop-again c = (
+    omega arith,
+    walk-node (c .before .before .before .before .before .before .before .before .before .before .before .loop .inv .1) (omega arith) (omega arith) (c .before .before .before .before .before .before .before .stretch-of .ensures .0) (omega arith) (c .child-from2 .ensures)
+        (λ f. writing-turn same (reading _ _ _) (reading _ _ _) _ _ (read-name _ _ _ _ _ _ f _ (omega arith) (c .before .before .extract-table-identifier .ensures)) (c .before .before .before .before .before .hand-on .ensures .0)),
+  )
+
+  loop-again-2 : collect-table-refs-lts.Need-loop-again-2 (claims t) (collect-table-refs-at t) collect-table-refs.Post collect-table-refs-Inv-loop collect-table-refs-μ-loop
+  loop-again-2 c = (
+    omega arith,
+    walk-node (c .before .before .before .before .before .before .before .before .before .before .before .before .before .loop .inv .1) (omega arith) (omega arith) (c .before .before .before .before .before .before .before .before .stretch-of2 .ensures .0) (omega arith) (c .child-from3 .ensures)
+        (λ f. writing-turn same (reading _ _ _) (reading _ _ _) _ _ (read-alias _ _ _ _ _ _ f (omega arith) (c .before .before .before .before .before .before .before .before .stretch-of2 .ensures .0) (omega arith) (c .before .before .before .before .before .before .before .extract-alias-name .ensures) (c .before .before .with-alias .ensures)) (c .before .before .before .before .before .put-alias .ensures .0)),
+  )
+
+  collect-table-refs-requires : collect-table-refs-lts.Need-collect-table-refs-requires (claims t) (collect-table-refs-at t) collect-table-refs.Post collect-table-refs-Inv-loop collect-table-refs-μ-loop
+  collect-table-refs-requires c κs = (omega arith, (omega arith, omega arith, omega arith))
+
+  loop-again-3 : collect-table-refs-lts.Need-loop-again-3 (claims t) (collect-table-refs-at t) collect-table-refs.Post collect-table-refs-Inv-loop collect-table-refs-μ-loop
+  loop-again-3 c = (
+    omega arith,
+    walk-node (c .before .before .before .before .before .before .before .before .before .before .before .before .loop .inv .1) (omega arith) (omega arith) (c .before .before .before .before .before .before .stretch-of3 .ensures .0) (omega arith) (c .child-from4 .ensures)
+        (λ f. writing-turn same (reading _ _ _) (reading _ _ _) _ _ (read-table _ _ _ _ _ _ f _ (omega arith)) (c .before .before .before .before .collect-table-refs .ensures .0)),
+  )
+
+  collect-table-refs-requires-2 : collect-table-refs-lts.Need-collect-table-refs-requires-2 (claims t) (collect-table-refs-at t) collect-table-refs.Post collect-table-refs-Inv-loop collect-table-refs-μ-loop
+  collect-table-refs-requires-2 c κs = (omega arith, (omega arith, omega arith, omega arith))
+
+  loop-again-4 : collect-table-refs-lts.Need-loop-again-4 (claims t) (collect-table-refs-at t) collect-table-refs.Post collect-table-refs-Inv-loop collect-table-refs-μ-loop
+  loop-again-4 c = (
+    omega arith,
+    walk-node (c .before .before .before .before .before .before .before .before .before .before .before .before .before .before .before .before .before .loop .inv .1) (omega arith) (omega arith) (c .before .before .before .before .before .before .before .before .before .before .stretch-of4 .ensures .0) (omega arith) (c .child-from5 .ensures)
+        (λ f. writing-turn same (reading _ _ _) (reading _ _ _) _ _ (read-join _ _ _ _ _ _ f _ (omega arith)) (written-then same (c .before .before .before .before .before .before .before .before .hand-on2 .ensures .0) (c .before .before .before .before .collect-table-refs2 .ensures .0))),
+  )
+
+  loop-again-5 : collect-table-refs-lts.Need-loop-again-5 (claims t) (collect-table-refs-at t) collect-table-refs.Post collect-table-refs-Inv-loop collect-table-refs-μ-loop
+  loop-again-5 c = (
+    omega arith,
+    walk-next (c .before .before .before .before .before .before .before .loop .inv .1) (omega arith) (c .child-from6 .ensures)
+        (λ g f. writing-turn same (reading _ _ _) (reading _ _ _) _ _ (read-token _ _ _ _ _ _ f) (written-none same _ _))
+        (λ g b f. writing-turn same (reading _ _ _) (reading _ _ _) _ _ (read-other _ _ _ _ _ _ f b (omega arith) (omega arith) (omega arith) (omega arith)) (written-none same _ _)),
+  )
+
+  same-length : collect-table-refs-lts.Need-same-length (claims t) (collect-table-refs-at t) collect-table-refs.Post collect-table-refs-Inv-loop collect-table-refs-μ-loop
+  same-length c = omega arith
+
+  returns : collect-table-refs-lts.Need-returns (claims t) (collect-table-refs-at t) collect-table-refs.Post collect-table-refs-Inv-loop collect-table-refs-μ-loop
+  returns c = (writing-last same (reading _ _ _) (reading _ _ _) _ (rw (read-end _ _ _) (c .before .before .hand-on3 .ensures .0)) (walk-end (c .before .before .before .before .before .loop .inv .1) (omega arith)), omega arith)
+
+pub +collect-table-refs-spec : {M : Type 1} → statement M
++collect-table-refs-spec =
+    close μ-collect-table-refs λ t.
+    collect-table-refs-lts.spec (claims t)
+    (collect-table-refs-at t)
+    collect-table-refs.Post
+    collect-table-refs-Inv-loop
+    collect-table-refs-μ-loop
+    (λ c κs. omega arith)  -- count-of-requires
+    (λ c κs. omega arith)  -- child-from-requires
+    (loop-holds t)  -- loop-holds
+    (λ c κs. omega arith)  -- kind-at-requires
+    (λ c κs. omega arith)  -- stretch-of-requires
+    (λ c κs. omega arith)  -- hand-on-requires
+    (λ c. omega arith)  -- add-extract-table-identifier
+    (λ c κs. omega arith)  -- extract-table-identifier-requires
+    (λ c κs. omega arith)  -- count-of-requires-2
+    (λ c. omega arith)  -- add-child-from
+    (λ c κs. omega arith)  -- child-from-requires-2
+    (λ c. omega arith)  -- loop-less
+    (loop-again t)  -- loop-again
+    (λ c κs. omega arith)  -- stretch-of-requires-2
+    (λ c. omega arith)  -- add-extract-alias-name
+    (λ c κs. omega arith)  -- extract-alias-name-requires
+    (λ c κs. omega arith)  -- put-alias-requires
+    (λ c κs. omega arith)  -- with-alias-requires
+    (λ c κs. omega arith)  -- count-of-requires-3
+    (λ c. omega arith)  -- add-child-from-2
+    (λ c κs. omega arith)  -- child-from-requires-3
+    (λ c. omega arith)  -- loop-less-2
+    (loop-again-2 t)  -- loop-again-2
+    (λ c κs. omega arith)  -- stretch-of-requires-3
+    (λ c. omega arith)  -- add-collect-table-refs
+    (collect-table-refs-requires t)  -- collect-table-refs-requires
+    (λ c κs. omega arith)  -- count-of-requires-4
+    (λ c. omega arith)  -- add-child-from-3
+    (λ c κs. omega arith)  -- child-from-requires-4
+    (λ c. omega arith)  -- loop-less-3
+    (loop-again-3 t)  -- loop-again-3
+    (λ c κs. omega arith)  -- stretch-of-requires-4
+    (λ c κs. omega arith)  -- hand-on-requires-2
+    (λ c. omega arith)  -- add-collect-table-refs-2
+    (collect-table-refs-requires-2 t)  -- collect-table-refs-requires-2
+    (λ c κs. omega arith)  -- count-of-requires-5
+    (λ c. omega arith)  -- add-child-from-4
+    (λ c κs. omega arith)  -- child-from-requires-5
+    (λ c. omega arith)  -- loop-less-4
+    (loop-again-4 t)  -- loop-again-4
+    (λ c. omega arith)  -- add-child-from-5
+    (λ c κs. omega arith)  -- child-from-requires-6
+    (λ c. omega arith)  -- loop-less-5
+    (loop-again-5 t)  -- loop-again-5
+    (λ c κs. omega arith)  -- hand-on-requires-3
+    (same-length t)  -- same-length
+    (returns t)  -- returns

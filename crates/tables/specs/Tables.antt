@@ -1,0 +1,78 @@
+-- The table reading of FROM and JOIN, and the entries of its references.
+-- src is the source's bytes.
+-- Definitions only.
+use Prim.Native.Nat.{ℕ}
+use mathlib.Core.Bool.{cond}
+use mathlib.Core.List.{List, [], _∷_, _++_}
+use lib.Dec.{eqb}
+use Rattle.table.specs.declared.record.Rec.{Rec}
+use Rattle.table.specs.Kinds.{joinClause, tableIdentifier, tableExpression, tableAlias}
+use Rattle.table.specs.Forest.{Forest, nil, token, node}
+use Rattle.names.specs.declared.names.NameBinding.{NameBinding}
+use Rattle.tables.specs.declared.pending.TableRef.{TableRef}
+use Rattle.names.specs.declared.names.Bound.{Bound}
+use Rattle.names.specs.declared.names.Bound.the-variants.{Unnamed, Named}
+use Rattle.tables.specs.declared.pending.Pending.{Pending}
+use Rattle.tables.specs.declared.pending.Pending.the-variants.{Nothing, Held}
+use Rattle.table.specs.Ranges.{absent, span}
+use Rattle.names.specs.Names.{isPart, direct, aliasIn}
+
+-- ---- the table reading
+
+-- the reference of name node x by its parts. One: table; two: database, table; else none
+unfoldable pub fresh : ℕ → List Rec → Pending
+fresh x [] = Nothing
+fresh x (t ∷ []) = Held (record { «record» = x; database = absent; table = span t; alias = absent })
+fresh x (d ∷ t ∷ []) = Held (record { «record» = x; database = span d; table = span t; alias = absent })
+fresh x (d ∷ t ∷ u ∷ more) = Nothing
+
+-- an alias that has a name sets the alias of the pending reference, if one is pending
+unfoldable pub aliased : Pending → Bound → Pending
+aliased Nothing b = Nothing
+aliased (Held t) Unnamed = Held t
+aliased (Held t) (Named b) = Held (record { «record» = t .«record»; database = t .database; table = t .table; alias = b .name })
+
+-- what a reading lists of a reference that is handed on, and of an alias that is set
+pub record Listing (E : Type 0) : Type 0 where
+  pub reference : TableRef → List E
+  pub alias : NameBinding → List E
+
+-- the pending reference is handed on
+unfoldable pub handOn : {E : Type 0} → Listing E → Pending → List E
+handOn L Nothing = []
+handOn L (Held t) = L .reference t
+
+-- an alias is listed if it has a name and one is pending
+unfoldable pub listAlias : {E : Type 0} → Listing E → Pending → Bound → List E
+listAlias L Nothing b = []
+listAlias L (Held t) Unnamed = []
+listAlias L (Held t) (Named b) = L .alias b
+
+-- the reading of siblings with p pending; its end hands on
+unfoldable pub reading : {E : Type 0} → Listing E → List ℕ → Pending → Forest → List E
+reading L src p nil = handOn L p
+reading L src p (token r rest) = reading L src p rest
+reading {E} L src p (node r below rest) =
+    let name : List E = handOn L p ++ reading L src (fresh (r .index) (direct isPart below)) rest in
+    let alias : List E = listAlias L p (aliasIn src r below) ++ reading L src (aliased p (aliasIn src r below)) rest in
+    let table : List E = reading L src Nothing below ++ reading L src p rest in
+    let join : List E = handOn L p ++ (reading L src Nothing below ++ reading L src Nothing rest) in
+    let other : List E = reading L src p rest in
+    let not35 : List E = cond (eqb (r .kind) tableExpression) table (cond (eqb (r .kind) joinClause) join other) in
+    cond (eqb (r .kind) tableIdentifier) name (cond (eqb (r .kind) tableAlias) alias not35)
+
+-- the references of a reading, and its aliases
+abbrev pub references : Listing TableRef
+references = record { reference = λ t. t ∷ []; alias = λ b. [] }
+
+abbrev pub aliases : Listing NameBinding
+aliases = record { reference = λ t. []; alias = λ b. b ∷ [] }
+
+-- a reference: record, then database, table, alias ranges
+abbrev pub referenceRow : TableRef → List ℕ
+referenceRow e =
+    e .«record» ∷ e .database .start ∷ e .database .end ∷ e .table .start ∷ e .table .end ∷ e .alias .start ∷ e .alias .end ∷ []
+
+-- how many bytes each takes
+abbrev pub referenceBytes : ℕ
+referenceBytes = 28

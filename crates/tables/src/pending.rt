@@ -1,0 +1,100 @@
+// The pending reference of a table reading.
+use names::names::Bound;
+use names::names::is_part;
+use table::range::Range;
+use table::range::no_range;
+use table::range::span_of;
+use table::record::count_of;
+use table::record::record_at;
+use table::stretch::child_from;
+ghost use mathlib.Core.Path.{_≡_};
+ghost use Prim.Native.Nat.{_+_, _≤_, _<_};
+ghost use Rattle.table.specs.Table.{count, records};
+ghost use Rattle.table.specs.Forest.{kids};
+ghost use Rattle.table.specs.Rules.{mostRecords};
+ghost use Rattle.names.specs.Names.{isPart, direct};
+ghost use Rattle.tables.specs.Tables.{fresh, aliased};
+ghost use Rattle.tables.specs.inner.Rows.{pends};
+
+pub const REFERENCE_BYTES: usize = 28;
+
+// A table reference in FROM or JOIN.
+pub struct TableRef {
+    pub record: usize,
+    pub database: Range,
+    pub table: Range,
+    pub alias: Range,
+}
+
+// The pending reference of a table reading.
+pub enum Pending {
+    Nothing,
+    Held(TableRef),
+}
+
+// The reference of a table name, the first record of the stretch s: of one part or two, else none.
+pub fn extract_table_identifier(s: &[u8], base: usize) -> Pending
+    requires { ⌜ (0 < count (now s)) × (base + count (now s) ≤ mostRecords) ⌝ }
+    ensures { λ r. ⌜ r ≡ fresh base (direct isPart (kids (records base (now (s .entry))))) ⌝ }
+{
+    let m = count_of(s);
+    let mut parts: usize = 0;
+    let mut database = no_range();
+    let mut table = no_range();
+    let mut i = child_from(s, 1);
+    while i < m {
+        let t = record_at(s, base, i);
+        if is_part(t) {
+            parts += 1;
+            database = table;
+            table = span_of(t);
+            i = child_from(s, i + 1);
+        } else {
+            i = child_from(s, i + 1);
+        }
+    }
+    if parts == 0 {
+        return Pending::Nothing;
+    }
+    if 2 < parts {
+        return Pending::Nothing;
+    }
+    Pending::Held(TableRef {
+        record: base,
+        database,
+        table,
+        alias: no_range(),
+    })
+}
+
+fn set_alias(mut t: TableRef, alias: Range) -> TableRef
+    ensures { λ r. ⌜ r ≡ record { «record» = t .«record»; database = t .database; table = t .table; alias = alias } ⌝ }
+{
+    t.alias = alias;
+    t
+}
+
+// The pending reference after an alias.
+pub fn with_alias(p: Pending, b: Bound) -> Pending
+    ensures { λ r. ⌜ r ≡ aliased p b ⌝ }
+{
+    match p {
+        Pending::Nothing => Pending::Nothing,
+        Pending::Held(t) => match b {
+            Bound::Unnamed => p,
+            Bound::Named(n) => {
+                let name = n.name;
+                Pending::Held(set_alias(t, name))
+            }
+        },
+    }
+}
+
+pub fn is_pending(p: Pending) -> bool
+    ensures { λ r. ⌜ r ≡ pends p ⌝ }
+{
+    match p {
+        Pending::Nothing => false,
+        Pending::Held(_) => true,
+    }
+}

@@ -1,0 +1,127 @@
+// The table reading: the references and the aliases of FROM and JOIN.
+use crate::pending::Pending;
+use crate::pending::TableRef;
+use crate::pending::extract_table_identifier;
+use crate::pending::is_pending;
+use crate::pending::with_alias;
+use names::bindings::put_bound;
+use names::names::Bound;
+use names::names::extract_alias_name;
+use table::kinds::JOIN_CLAUSE;
+use table::kinds::TABLE_ALIAS;
+use table::kinds::TABLE_EXPRESSION;
+use table::kinds::TABLE_IDENTIFIER;
+use table::list::put_entry;
+use table::record::count_of;
+use table::record::kind_at;
+use table::stretch::child_from;
+use table::stretch::stretch_of;
+ghost use mathlib.Core.List.{[], _∷_};
+ghost use Prim.Native.Nat.{_+_, _*_, _≤_, _<_};
+ghost use Rattle.table.specs.Table.{count, records};
+ghost use Rattle.table.specs.Forest.{kids};
+ghost use Rattle.table.specs.Rules.{mostRecords};
+ghost use Rattle.table.specs.Lists.{farthest, Written};
+ghost use Rattle.tables.specs.Tables.{handOn, listAlias, reading, referenceBytes, referenceRow};
+ghost use Rattle.tables.specs.inner.Rows.{same, rowsOf, readBytes};
+
+// What a table reading writes.
+pub enum Reads {
+    Aliases,
+    References,
+}
+
+fn put_reference(t: TableRef, out: &mut [u8], at: usize) -> usize
+    requires { ⌜ at < farthest ⌝ }
+    ensures { λ r. ⌜ Written referenceRow (t ∷ []) (now (out .entry)) at (now (out .exit)) r × (r ≤ at + referenceBytes) ⌝ }
+{
+    let row = [
+        t.record,
+        t.database.start,
+        t.database.end,
+        t.table.start,
+        t.table.end,
+        t.alias.start,
+        t.alias.end,
+    ];
+    put_entry(out, at, &row)
+}
+
+// Writes an alias that is set, if aliases are read, and returns where the next entry goes.
+fn put_alias(reads: Reads, p: Pending, b: Bound, out: &mut [u8], at: usize) -> usize
+    requires { ⌜ at < farthest ⌝ }
+    ensures { λ r. ⌜ Written same (listAlias (rowsOf reads) p b) (now (out .entry)) at (now (out .exit)) r × (r ≤ at + referenceBytes) ⌝ }
+{
+    match reads {
+        Reads::References => at,
+        Reads::Aliases => {
+            if is_pending(p) {
+                put_bound(b, out, at)
+            } else {
+                at
+            }
+        }
+    }
+}
+
+// Writes the pending reference, if there is one and references are read, and returns where the next entry goes.
+fn hand_on(reads: Reads, p: Pending, out: &mut [u8], at: usize) -> usize
+    requires { ⌜ at < farthest ⌝ }
+    ensures { λ r. ⌜ Written same (handOn (rowsOf reads) p) (now (out .entry)) at (now (out .exit)) r × (r ≤ at + referenceBytes) ⌝ }
+{
+    match reads {
+        Reads::Aliases => at,
+        Reads::References => match p {
+            Pending::Nothing => at,
+            Pending::Held(t) => put_reference(t, out, at),
+        },
+    }
+}
+
+// The table reading of the children of the stretch's first record, whose number is base: writes what is read into out from byte `at` on,
+// and returns where the next entry goes.
+pub fn collect_table_refs(
+    reads: Reads,
+    s: &[u8],
+    base: usize,
+    source: &[u8],
+    out: &mut [u8],
+    at: usize,
+) -> usize
+    requires { ⌜ (0 < count (now s)) × (base + count (now s) ≤ mostRecords) × (at + readBytes * count (now s) < farthest) ⌝ }
+    ensures { λ r. ⌜ Written same (reading (rowsOf reads) (now (source .entry)) Pending.Nothing (kids (records base (now (s .entry))))) (now (out .entry)) at (now (out .exit)) r
+        × (r + referenceBytes ≤ at + readBytes * count (now (s .entry))) ⌝ }
+{
+    let m = count_of(s);
+    let mut next = at;
+    let mut pending = Pending::Nothing;
+    let mut i = child_from(s, 1);
+    while i < m {
+        let kind = kind_at(s, i);
+        if kind == TABLE_IDENTIFIER {
+            let part = stretch_of(s, i);
+            next = hand_on(reads, pending, out, next);
+            pending = extract_table_identifier(part, base + i);
+            i = child_from(s, i + count_of(part));
+        } else if kind == TABLE_ALIAS {
+            let part = stretch_of(s, i);
+            let bound = extract_alias_name(part, base + i, source);
+            next = put_alias(reads, pending, bound, out, next);
+            pending = with_alias(pending, bound);
+            i = child_from(s, i + count_of(part));
+        } else if kind == TABLE_EXPRESSION {
+            let part = stretch_of(s, i);
+            next = collect_table_refs(reads, part, base + i, source, out, next);
+            i = child_from(s, i + count_of(part));
+        } else if kind == JOIN_CLAUSE {
+            let part = stretch_of(s, i);
+            next = hand_on(reads, pending, out, next);
+            pending = Pending::Nothing;
+            next = collect_table_refs(reads, part, base + i, source, out, next);
+            i = child_from(s, i + count_of(part));
+        } else {
+            i = child_from(s, i + 1);
+        }
+    }
+    hand_on(reads, pending, out, next)
+}

@@ -1,0 +1,3 @@
+pub mod Function
+pub mod LastToken
+pub mod inner
