@@ -23,8 +23,8 @@ use Rattle.table.specs.Text.{same}
 use Rattle.table.proofs.Laws.{lt-or-le, eq-or-not}
 use Rattle.table.proofs.Texts.{both, differ}
 use Rattle.table.proofs.Writes.{written-none, written-one, written-then, length-wide, list-filled, list-short}
-use Rattle.brackets.specs.Brackets.{isOpener, isCloser, fits, closed, stepped, left, stackLeft, indexOf, openersLeft, row, holding, lastOf, hintOf, hinted, Holds}
-use Rattle.brackets.specs.inner.BracketStack.{packed, unpacked, stackOf, closedBy, steppedBy, leftBy, lastBy, hintBy}
+use Rattle.brackets.specs.Brackets.{isOpener, isCloser, fits, closed, stackStep, left, stackLeft, indexOf, openersLeft, openerRow, holding, lastOpener, hintOf, hinted, StandsIn}
+use Rattle.brackets.specs.inner.BracketStack.{stacked, unpacked, stackOf, closedBy, steppedBy, leftBy, lastBy, hintBy}
 use Rattle.brackets.specs.declared.bracket_matching.Hint.{Hint}
 use Rattle.brackets.specs.declared.bracket_matching.Hint.the-variants.{Opener, NoOpener}
 
@@ -55,9 +55,9 @@ module _ (array : List ℕ) (n k i : ℕ) where
   unfolding steppedBy
   step-high h = rw (le-leb 137 k (omega arith), lt-leb k 139 (omega arith), le-leb 140 k (omega arith), lt-leb k 142 h)
 
-  pub step-open : n < length array → 137 ≤ k → k ≤ 139 → stackOf (set array n (packed k i)) (n + 1) ≡ steppedBy (stackOf array n) k i
+  pub step-open : n < length array → 137 ≤ k → k ≤ 139 → stackOf (set array n (stacked k i)) (n + 1) ≡ steppedBy (stackOf array n) k i
   unfolding steppedBy
-  step-open l h g = rw (le-leb 137 k h, le-leb k 139 g) (stack-push array n (packed k i) l)
+  step-open l h g = rw (le-leb 137 k h, le-leb k 139 g) (stack-push array n (stacked k i) l)
 
   module _ (h : 139 < k) (g : k ≤ 142) where
     closes : (st : List ℕ) → steppedBy st k i ≡ closedBy st k
@@ -95,7 +95,7 @@ left-nil st = refl
 -- ---- the array's stack is the definition's
 
 abbrev pack : Rec → ℕ
-pack r = packed (r .kind) (r .index)
+pack r = stacked (r .kind) (r .index)
 
 -- only openers are on the stack
 Open : List Rec → Type 0
@@ -125,7 +125,7 @@ closed-pack : (stack : List Rec) (c : ℕ) → Open stack → 140 ≤ c → c �
 unfolding closed closedBy Open
 closed-pack [] c w h g = refl
 closed-pack (o ∷ stack) c w h g =
-    let e : packed (o .kind) (o .index) % 4 ≡ o .kind - 137 = omega (arith, w .0 .0, w .0 .1) in
+    let e : stacked (o .kind) (o .index) % 4 ≡ o .kind - 137 = omega (arith, w .0 .0, w .0 .1) in
     rw (e, fits-shape (o .kind) c (w .0 .0) (w .0 .1) h g) (go (eqb (o .kind - 137) (c - 140)))
   where
     go : (b : Bool) → map pack (cond b stack (o ∷ stack)) ≡ cond b (map pack stack) (pack o ∷ map pack stack)
@@ -144,24 +144,24 @@ closed-open (o ∷ stack) c w = go (fits (o .kind) c)
 -- the ways of a token: an opener, a closer, neither
 module _ (stack : List Rec) (r : Rec) (w : Open stack) where
   abbrev same-step : Type 0
-  same-step = (map pack (stepped stack r) ≡ steppedBy (map pack stack) (r .kind) (r .index)) × Open (stepped stack r)
+  same-step = (map pack (stackStep stack r) ≡ steppedBy (map pack stack) (r .kind) (r .index)) × Open (stackStep stack r)
 
   token-open : 137 ≤ r .kind → r .kind ≤ 139 → same-step
-  unfolding stepped steppedBy Open
+  unfolding stackStep steppedBy Open
   token-open h g = rw (le-leb 137 (r .kind) h, le-leb (r .kind) 139 g) (refl, ((h, g), w))
 
   token-close : 139 < r .kind → r .kind ≤ 142 → same-step
-  unfolding stepped steppedBy
+  unfolding stackStep steppedBy
   token-close h g =
       rw (le-leb 137 (r .kind) (omega arith), lt-leb (r .kind) 139 h, le-leb 140 (r .kind) (omega arith), le-leb (r .kind) 142 g)
       (closed-pack stack (r .kind) w (omega arith) g, closed-open stack (r .kind) w)
 
   token-low : r .kind < 137 → same-step
-  unfolding stepped steppedBy
+  unfolding stackStep steppedBy
   token-low h = rw (lt-leb 137 (r .kind) h, lt-leb 140 (r .kind) (omega arith)) (refl, w)
 
   token-high : 142 < r .kind → same-step
-  unfolding stepped steppedBy
+  unfolding stackStep steppedBy
   token-high h = rw (le-leb 137 (r .kind) (omega arith), lt-leb (r .kind) 139 (omega arith), le-leb 140 (r .kind) (omega arith), lt-leb (r .kind) 142 h) (refl, w)
 
   token-step : same-step
@@ -176,7 +176,7 @@ unfolding left leftBy
 left-pack nil stack w = (refl, w)
 left-pack (token r rest) stack w =
     let s = token-step stack r w in
-    let l = left-pack rest (stepped stack r) (s .1) in
+    let l = left-pack rest (stackStep stack r) (s .1) in
     (l .0 ∙ rw (s .0), l .1)
 left-pack (node r below rest) stack w =
     let s = left-pack below stack w in
@@ -201,7 +201,7 @@ unpack-all : (stack : List Rec) → Open stack → map unpacked (map pack stack)
 unfolding Open
 unpack-all [] w = refl
 unpack-all (o ∷ stack) w =
-    let e : packed (o .kind) (o .index) / 4 ≡ o .index = omega (arith, w .0 .0, w .0 .1) in
+    let e : stacked (o .kind) (o .index) / 4 ≡ o .index = omega (arith, w .0 .0, w .0 .1) in
     rw (e, unpack-all stack (w .1))
 
 -- what the walk leaves in the array is the stack of the tree
@@ -216,15 +216,15 @@ module _ (t array : List ℕ) (n : ℕ) (e : stackOf array n ≡ leftBy [] (kids
 
 -- ---- an entry more
 module _ (array : List ℕ) (j : ℕ) {out out′ out″ : List ℕ} {at at′ v : ℕ} where
-  pub opener-put : Written row (map unpacked (take j array)) out 0 out′ at → j < length array → v ≡ getD array j 0 / 4 → out″ ≡ put out′ at (v ∷ []) → at′ ≡ at + numberBytes * 1
-      → Written row (map unpacked (take (j + 1) array)) out 0 out″ at′
+  pub opener-put : Written openerRow (map unpacked (take j array)) out 0 out′ at → j < length array → v ≡ getD array j 0 / 4 → out″ ≡ put out′ at (v ∷ []) → at′ ≡ at + numberBytes * 1
+      → Written openerRow (map unpacked (take (j + 1) array)) out 0 out″ at′
   opener-put w h e q r =
       let z : map unpacked (take (j + 1) array) ≡ map unpacked (take j array) ++ v ∷ [] =
       rw (add-one j, take-suc array j 0 h, e) (map-append unpacked (take j array) (getD array j 0 ∷ [])) in
-      rw z (written-then row w (written-one row v out′ at q r))
+      rw z (written-then openerRow w (written-one openerRow v out′ at q r))
 
-pub opener-none : (array out : List ℕ) → Written row (map unpacked (take 0 array)) out 0 out 0
-opener-none array out = written-none row out 0
+pub opener-none : (array out : List ℕ) → Written openerRow (map unpacked (take 0 array)) out 0 out 0
+opener-none array out = written-none openerRow out 0
 
 -- ---- the last opener of a shape
 
@@ -242,12 +242,12 @@ module _ (array : List ℕ) (shape : ℕ) {h : Hint} where
     unfolding lastBy
     last-on q = e ∙ rw (stack-top array j p, ne-eqb (getD array (j - 1) 0 % 4) shape q)
 
-last-pack : (k : ℕ) (stack : List Rec) → Open stack → 137 ≤ k → lastBy (k - 137) (map pack stack) ≡ lastOf k stack
-unfolding lastBy lastOf Open
+last-pack : (k : ℕ) (stack : List Rec) → Open stack → 137 ≤ k → lastBy (k - 137) (map pack stack) ≡ lastOpener k stack
+unfolding lastBy lastOpener Open
 last-pack k [] w h = refl
 last-pack k (o ∷ stack) w h =
-    let e : packed (o .kind) (o .index) % 4 ≡ o .kind - 137 = omega (arith, w .0 .0, w .0 .1) in
-    let i : packed (o .kind) (o .index) / 4 ≡ o .index = omega (arith, w .0 .0, w .0 .1) in
+    let e : stacked (o .kind) (o .index) % 4 ≡ o .kind - 137 = omega (arith, w .0 .0, w .0 .1) in
+    let i : stacked (o .kind) (o .index) / 4 ≡ o .index = omega (arith, w .0 .0, w .0 .1) in
     rw (e, i, last-pack k stack (w .1) h)
     (⊎-elim
     (λ q. rw (eq-eqb (o .kind) k q, eq-eqb (o .kind - 137) (k - 137) (ap (λ x. x - 137) q)))
@@ -300,16 +300,16 @@ module _ (t array out : List ℕ) (n : ℕ) (e : stackOf array n ≡ leftBy [] (
   fours : 4 * n / 4 ≡ n
   fours = omega arith
 
-  pub openers-short : length out < 4 * n → (Denied 7 n ≡ listed [] row (openersLeft t) out) × (out ≡ lent [] row (openersLeft t) out)
+  pub openers-short : length out < 4 * n → (Denied 7 n ≡ listed [] openerRow (openersLeft t) out) × (out ≡ lent [] openerRow (openersLeft t) out)
   openers-short g =
       let l : length (openersLeft t) ≡ n = ap length (sym (openers-are t array n e h)) ∙ length-map (take n array) unpacked ∙ length-take-le n array h in
-      let r = list-short row 4 (λ x. refl) (omega arith) [] (openersLeft t) out refl {m = 4 * n} (omega (arith, length-wide row 4 (λ x. refl) (openersLeft t))) g in
+      let r = list-short openerRow 4 (λ x. refl) (omega arith) [] (openersLeft t) out refl {m = 4 * n} (omega (arith, length-wide openerRow 4 (λ x. refl) (openersLeft t))) g in
       rw fours at r
 
-  pub openers-full : {out′ : List ℕ} → Written row (map unpacked (take n array)) out 0 out′ (4 * n) → 4 * n ≤ length out
-      → (Entries n ≡ listed [] row (openersLeft t) out) × (out′ ≡ lent [] row (openersLeft t) out)
+  pub openers-full : {out′ : List ℕ} → Written openerRow (map unpacked (take n array)) out 0 out′ (4 * n) → 4 * n ≤ length out
+      → (Entries n ≡ listed [] openerRow (openersLeft t) out) × (out′ ≡ lent [] openerRow (openersLeft t) out)
   openers-full w g =
-      let r = list-filled row 4 (λ x. refl) (omega arith) [] (openersLeft t) out refl (rw (openers-are t array n e h) at w) g in
+      let r = list-filled openerRow 4 (λ x. refl) (omega arith) [] (openersLeft t) out refl (rw (openers-are t array n e h) at w) g in
       rw fours at r
 
 pub hinted-refused : {v : Verdict} (h : Hint) {k d : ℕ} → Refused k d ≡ v → Away k d ≡ hinted v h
@@ -332,12 +332,12 @@ same-refl : (a : List ℕ) → same a a ≡ true
 same-refl [] = refl
 same-refl (x ∷ xs) = rw (eq-eqb x x refl, same-refl xs)
 
-holds→ : (w m : List ℕ) → holding w m ≡ true → Holds w m
+holds→ : (w m : List ℕ) → holding w m ≡ true → StandsIn w m
 unfolding holding
 holds→ w [] e = record { before = []; after = []; is = same-eq [] w e ∙ sym (append-nil w) }
 holds→ w (b ∷ m) e = go (same (take (length w) (b ∷ m)) w) refl e (holds→ w m)
   where
-    go : (t : Bool) → same (take (length w) (b ∷ m)) w ≡ t → (t || holding w m) ≡ true → (holding w m ≡ true → Holds w m) → Holds w (b ∷ m)
+    go : (t : Bool) → same (take (length w) (b ∷ m)) w ≡ t → (t || holding w m) ≡ true → (holding w m ≡ true → StandsIn w m) → StandsIn w (b ∷ m)
     go true q e on =
         record { before = []; after = drop (length w) (b ∷ m); is = sym (take-append-drop (length w) (b ∷ m)) ∙ ap (λ (l : List ℕ). l ++ drop (length w) (b ∷ m)) (same-eq (take (length w) (b ∷ m)) w q) }
     go false q e on = let h = on e in record { before = b ∷ h .before; after = h .after; is = ap (λ (l : List ℕ). b ∷ l) (h .is) }
@@ -356,5 +356,5 @@ holds← w (b ∷ before) after = rw (holding-cons w b (before ++ w ++ after), h
     right true = refl
     right false = refl
 
-pub holding-plain : (w m : List ℕ) → (holding w m ≡ true) ↔ Holds w m
+pub holding-plain : (w m : List ℕ) → (holding w m ≡ true) ↔ StandsIn w m
 holding-plain w m = (holds→ w m, λ h. rw (h .is) (holds← w (h .before) (h .after)))

@@ -40,13 +40,13 @@ closed [] c = []
 closed (o ∷ stack) c = cond (fits (o .kind) c) stack (o ∷ stack)
 
 -- each token does one step of the stack, whose top stands first: an opener is pushed, a closer closes
-unfoldable pub stepped : List Rec → Rec → List Rec
-stepped stack r = cond (isOpener (r .kind)) (r ∷ stack) (cond (isCloser (r .kind)) (closed stack (r .kind)) stack)
+unfoldable pub stackStep : List Rec → Rec → List Rec
+stackStep stack r = cond (isOpener (r .kind)) (r ∷ stack) (cond (isCloser (r .kind)) (closed stack (r .kind)) stack)
 
 -- the stack after siblings and what is below them
 unfoldable pub left : List Rec → Forest → List Rec
 left stack nil = stack
-left stack (token r rest) = left (stepped stack r) rest
+left stack (token r rest) = left (stackStep stack r) rest
 left stack (node r below rest) = left (left stack below) rest
 
 -- the stack after a table's tree
@@ -64,8 +64,8 @@ abbrev pub openersLeft : List ℕ → List ℕ
 openersLeft t = map indexOf (reverse (stackLeft t))
 
 -- the numbers of an entry
-abbrev pub row : ℕ → List ℕ
-row i = i ∷ []
+abbrev pub openerRow : ℕ → List ℕ
+openerRow i = i ∷ []
 
 -- a message holds a word: it stands somewhere in it
 unfoldable pub holding : List ℕ → List ℕ → Bool
@@ -73,22 +73,22 @@ holding w [] = same [] w
 holding w (b ∷ m) = let on : Bool = holding w m in same (take (length w) (b ∷ m)) w || on
 
 -- the same in plain words: the word stands in the message between two parts of it (`holding-plain` in proofs/BracketLaws.antt)
-pub record Holds (w m : List ℕ) : Type 0 where
+pub record StandsIn (w m : List ℕ) : Type 0 where
   pub before : List ℕ
   pub after : List ℕ
   pub is : m ≡ before ++ w ++ after
 
 -- the last opener of this kind that is left: the nearest to the top
-unfoldable pub lastOf : ℕ → List Rec → Hint
-lastOf k [] = NoOpener
-lastOf k (o ∷ stack) = let on : Hint = lastOf k stack in cond (eqb (o .kind) k) (Opener (o .index)) on
+unfoldable pub lastOpener : ℕ → List Rec → Hint
+lastOpener k [] = NoOpener
+lastOpener k (o ∷ stack) = let on : Hint = lastOpener k stack in cond (eqb (o .kind) k) (Opener (o .index)) on
 
 -- for a message holding `expected )`, else `expected ]`, else `expected }`, the last such opener left, or none
 unfoldable pub hintOf : List ℕ → List Rec → Hint
 hintOf m stack =
-    cond (holding (bytesOf "expected )") m) (lastOf openingRound stack)
-    (cond (holding (bytesOf "expected ]") m) (lastOf openingSquare stack)
-    (cond (holding (bytesOf "expected }") m) (lastOf openingCurly stack) NoOpener))
+    cond (holding (bytesOf "expected )") m) (lastOpener openingRound stack)
+    (cond (holding (bytesOf "expected ]") m) (lastOpener openingSquare stack)
+    (cond (holding (bytesOf "expected }") m) (lastOpener openingCurly stack) NoOpener))
 
 -- the reply: a refusal, or the hint
 unfoldable pub hinted : Verdict → Hint → HintReply

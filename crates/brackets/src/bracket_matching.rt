@@ -1,4 +1,6 @@
 // Bracket matching: which openers are left, and which of them a message speaks of.
+use table::check::MOST_RECORDS;
+use table::check::NO_ROOM;
 use table::check::Verdict;
 use table::check::check;
 use table::check::check_message;
@@ -23,8 +25,8 @@ ghost use lib.ListN.{length, take};
 ghost use Rattle.table.specs.Table.{count, records};
 ghost use Rattle.table.specs.Forest.{kids, stretchEnd};
 ghost use Rattle.table.specs.Rules.{mostRecords, rules, verdict};
-ghost use Rattle.table.specs.Lists.{Written, listed, lent};
-ghost use Rattle.brackets.specs.Brackets.{row, stackLeft, openersLeft, holding, hintOf, hinted};
+ghost use Rattle.table.specs.Lists.{Written, Answers};
+ghost use Rattle.brackets.specs.Brackets.{openerRow, stackLeft, openersLeft, holding, hintOf, hinted};
 ghost use Rattle.brackets.specs.inner.BracketStack.{stackOf, steppedBy, leftBy, unpacked, lastBy, hintBy};
 
 // The reply of a stack walk: how many openers are on the stack, and how many records the walk looked at.
@@ -39,17 +41,15 @@ pub enum Hint {
     NoOpener,
 }
 
+// The reply to the question for the hint.
 pub enum HintReply {
     Hinted(Hint),
     // the refusal's number and its detail
     Refused(u32, u32),
 }
 
-// As many openers as a table may have records.
-const STACK: usize = 4096;
-
 // One step of the bracket stack, for record `number` of this kind. The first n elements are the stack.
-fn step(stack: &mut [u16], n: usize, kind: usize, number: usize) -> usize
+fn stack_step(stack: &mut [u16], n: usize, kind: usize, number: usize) -> usize
     requires { ⌜ (n < length (now stack)) × (number < mostRecords) ⌝ }
     ensures { λ r. ⌜ (stackOf (now (stack .exit)) r ≡ steppedBy (stackOf (now (stack .entry)) n) kind number) × (r ≤ n + 1) ⌝ }
 {
@@ -94,7 +94,7 @@ fn collect_brackets(s: &[u8], base: usize, stack: &mut [u16], n: usize) -> Stack
             top = w.top;
             i = i + w.used;
         } else {
-            top = step(stack, top, kind, base + i);
+            top = stack_step(stack, top, kind, base + i);
             i = level_from(s, k, i + 1);
         }
     }
@@ -104,7 +104,7 @@ fn collect_brackets(s: &[u8], base: usize, stack: &mut [u16], n: usize) -> Stack
 // Writes the record numbers of the n openers of a stack, the lowest first.
 fn put_openers(stack: &[u16], n: usize, out: &mut [u8])
     requires { ⌜ (n ≤ length (now stack)) × (n ≤ mostRecords) ⌝ }
-    ensures { λ _. ⌜ Written row (map unpacked (take n (now (stack .entry)))) (now (out .entry)) 0 (now (out .exit)) (4 * n) ⌝ }
+    ensures { λ _. ⌜ Written openerRow (map unpacked (take n (now (stack .entry)))) (now (out .entry)) 0 (now (out .exit)) (4 * n) ⌝ }
 {
     let mut at = 0;
     let mut j = 0;
@@ -117,14 +117,14 @@ fn put_openers(stack: &[u16], n: usize, out: &mut [u8])
 // Lists the openers left of a table that is admitted.
 fn list_openers(table: &[u8], out: &mut [u8]) -> Listed
     requires { ⌜ (0 < count (now table)) × (count (now table) ≤ mostRecords) ⌝ }
-    ensures { λ r. ⌜ (r ≡ listed [] row (openersLeft (now (table .entry))) (now (out .entry)))
-        × (now (out .exit) ≡ lent [] row (openersLeft (now (table .entry))) (now (out .entry))) ⌝ }
+    ensures { λ r. ⌜ Answers [] openerRow
+        (openersLeft (now (table .entry))) (now (out .entry)) r (now (out .exit)) ⌝ }
 {
-    let mut stack = [0u16; STACK];
+    let mut stack = [0u16; MOST_RECORDS];
     let w = collect_brackets(table, 0, &mut stack, 0);
     let n = w.top;
     if out.len() < NUMBER_BYTES * n {
-        return Listed::Refused(7, n as u32);
+        return Listed::Refused(NO_ROOM, n as u32);
     }
     put_openers(&stack, n, out);
     Listed::Entries(n as u32)
@@ -132,8 +132,8 @@ fn list_openers(table: &[u8], out: &mut [u8]) -> Listed
 
 // The question: the openers left, in order, a record number each.
 pub fn openers_left(table: &[u8], source: &[u8], out: &mut [u8]) -> Listed
-    ensures { λ r. ⌜ (r ≡ listed (rules (now (table .entry)) (length (now (source .entry))) 0) row (openersLeft (now (table .entry))) (now (out .entry)))
-        × (now (out .exit) ≡ lent (rules (now (table .entry)) (length (now (source .entry))) 0) row (openersLeft (now (table .entry))) (now (out .entry))) ⌝ }
+    ensures { λ r. ⌜ Answers (rules (now (table .entry)) (length (now (source .entry))) 0) openerRow
+        (openersLeft (now (table .entry))) (now (out .entry)) r (now (out .exit)) ⌝ }
 {
     match check(table, source) {
         Verdict::Refused(k, d) => Listed::Refused(k, d),
@@ -196,14 +196,15 @@ fn find_hint(table: &[u8], message: &[u8]) -> Hint
     requires { ⌜ (0 < count (now table)) × (count (now table) ≤ mostRecords) ⌝ }
     ensures { λ r. ⌜ r ≡ hintOf (now (message .entry)) (stackLeft (now (table .entry))) ⌝ }
 {
-    let mut stack = [0u16; STACK];
+    let mut stack = [0u16; MOST_RECORDS];
     let w = collect_brackets(table, 0, &mut stack, 0);
     hint_on(&stack, w.top, message)
 }
 
 // The question: the opener that an `expected ..` message speaks of.
 pub fn bracket_hint(table: &[u8], source: &[u8], message: &[u8]) -> HintReply
-    ensures { λ r. ⌜ r ≡ hinted (verdict (now (table .entry)) (length (now (source .entry))) (length (now (message .entry)))) (hintOf (now (message .entry)) (stackLeft (now (table .entry)))) ⌝ }
+    ensures { λ r. ⌜ r ≡ hinted (verdict (now (table .entry)) (length (now (source .entry))) (length (now (message .entry))))
+        (hintOf (now (message .entry)) (stackLeft (now (table .entry)))) ⌝ }
 {
     match check_message(table, source, message) {
         Verdict::Refused(k, d) => HintReply::Refused(k, d),

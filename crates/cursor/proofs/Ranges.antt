@@ -28,11 +28,11 @@ use Rattle.cursor.specs.declared.context.Answer.{Answer}
 use Rattle.cursor.specs.declared.context.Answer.the-variants.{GoOn, Given}
 use Rattle.cursor.specs.declared.trailing.Clause.{Clause}
 use Rattle.cursor.specs.declared.trailing.Clause.the-variants.{NoClause, Ends}
-use Rattle.path.specs.Path.{pathAt, oneOf, deepest, onPath, isStatement}
+use Rattle.path.specs.Path.{pathAt, oneOf, deepest, onPath, trails}
 use Rattle.tokens.specs.LastToken.{named, lastTwo, dotted, isJoinWord}
 use Rattle.tokens.specs.Function.{bareWordIn, orName, functionName, arguments}
 use Rattle.cursor.specs.Trailing.{lastClause, pastClause, pastEnd, trailingIn, trailingRule}
-use Rattle.cursor.specs.PathRules.{Rule, Seen, tableReference, joined, functionArgument, columnOr, column, pathRules, ruled, orElse, seen, byPath, pathRule}
+use Rattle.cursor.specs.PathRules.{NodeRule, Seen, tableReference, joined, functionArgument, columnOr, column, pathRules, ruled, elseAsk, seen, byPath, pathRule}
 use Rattle.cursor.specs.CursorContext.{startsAfter, lastRule, givenOr, contextAt}
 use Rattle.cursor.specs.Context.{coded, Starts, Ranged}
 use Rattle.cursor.proofs.Coded.{tells-apart}
@@ -129,8 +129,8 @@ fine-cond : (b : Bool) (x y : Answer) → Fine x → Fine y → Fine (cond b x y
 fine-cond true x y p q = p
 fine-cond false x y p q = q
 
-fine-else : (x y : Answer) → Fine x → Fine y → Fine (orElse x y)
-unfolding orElse
+fine-else : (x y : Answer) → Fine x → Fine y → Fine (elseAsk x y)
+unfolding elseAsk
 fine-else GoOn y p q = q
 fine-else (Given c) y p q = p
 
@@ -139,11 +139,11 @@ unfolding givenOr Fine
 ranged-given other GoOn p q = p
 ranged-given other (Given c) p q = q
 
-unfoldable Gives : List Rule → Type 0
+unfoldable Gives : List NodeRule → Type 0
 Gives [] = Unit
 Gives (r ∷ rs) = Ranged (r .gives) × Gives rs
 
-fine-ruled : (k : ℕ) (rs : List Rule) → Gives rs → Fine (ruled k rs)
+fine-ruled : (k : ℕ) (rs : List NodeRule) → Gives rs → Fine (ruled k rs)
 unfolding ruled Gives Fine
 fine-ruled k [] g = tt
 fine-ruled k (r ∷ rs) g = fine-cond (oneOf (r .kinds) k) _ (ruled k rs) (fine-cond (r .applies) (Given (r .gives)) GoOn (g .0) tt) (fine-ruled k rs (g .1))
@@ -196,7 +196,7 @@ module _ (src t : List ℕ) (o : ℕ) (near : (i : ℕ) → Every Near (inside t
   ranged-context : Ranged (contextAt src t o)
   unfolding contextAt
   ranged-context =
-      search (ranged-given, ranged-last, fine-path (onPath joinConstraint (pathAt t o)) (pathAt t o), fine-trailing t o (deepest isStatement (pathAt t o)))
+      search (ranged-given, ranged-last, fine-path (onPath joinConstraint (pathAt t o)) (pathAt t o), fine-trailing t o (deepest trails (pathAt t o)))
 
 pub given-ranged : (src t : List ℕ) (n o : ℕ) → verdict t n 0 ≡ Admitted → Ranged (contextAt src t o)
 unfolding recordAt

@@ -20,9 +20,9 @@ use Rattle.path.specs.declared.gathered.Next.the-variants.{Deepest, Above}
 use Rattle.path.specs.declared.gathered.Gathered.{Gathered}
 use Rattle.cursor.specs.declared.context.Answer.{Answer}
 use Rattle.cursor.specs.declared.context.Answer.the-variants.{GoOn, Given}
-use Rattle.path.specs.Path.{pathAt, oneOf, deepest, onPath, isStatement, nextOf}
+use Rattle.path.specs.Path.{pathAt, oneOf, deepest, onPath, trails, nextOf}
 use Rattle.cursor.specs.Trailing.{trailingIn}
-use Rattle.cursor.specs.PathRules.{Rule, Seen, pathRules, ruled, orElse, byPath}
+use Rattle.cursor.specs.PathRules.{NodeRule, Seen, pathRules, ruled, elseAsk, byPath}
 use Rattle.cursor.specs.CursorContext.{contextAt}
 use Rattle.cursor.specs.inner.Steps.{applies, gives, trailingFrom, givenBy, ruledBy, analyzed}
 use Rattle.path.specs.inner.Gathered.{decides, settled, stepped, nothing, gathered}
@@ -30,7 +30,7 @@ use Rattle.path.proofs.Gathers.{numbered, gathered-statement, gathered-constrai
 
 -- ---- one node
 
-ruled-gives : (k : ℕ) (rs : List Rule) → ruled k rs ≡ cond (applies k rs) (Given (gives k rs)) GoOn
+ruled-gives : (k : ℕ) (rs : List NodeRule) → ruled k rs ≡ cond (applies k rs) (Given (gives k rs)) GoOn
 unfolding ruled applies gives
 ruled-gives k [] = refl
 ruled-gives k (r ∷ rs) = go (oneOf (r .kinds) k) (ruled-gives k rs)
@@ -62,13 +62,13 @@ decides-not-other k x e =
 
 -- ---- the deepest node whose rule applies
 
-else-assoc : (a b c : Answer) → orElse (orElse a b) c ≡ orElse a (orElse b c)
-unfolding orElse
+else-assoc : (a b c : Answer) → elseAsk (elseAsk a b) c ≡ elseAsk a (elseAsk b c)
+unfolding elseAsk
 else-assoc GoOn b c = refl
 else-assoc (Given x) b c = refl
 
-else-none : (a : Answer) → orElse a GoOn ≡ a
-unfolding orElse
+else-none : (a : Answer) → elseAsk a GoOn ≡ a
+unfolding elseAsk
 else-none GoOn = refl
 else-none (Given x) = refl
 
@@ -77,28 +77,28 @@ module _ (src t : List ℕ) (o : ℕ) (c : Bool) where
   abbrev told : ℕ → ℕ → Answer
   told k i = cond (eqb k otherNode) GoOn (Given (givenBy src o c k (inside t i)))
 
-  settle-told : (g : Gathered) (x : Next) → orElse (ruled (g .kind) (pathRules src o (at src o c (g .kind) x (inside t (g .node))))) (told (g .ruling) (g .ruled))
+  settle-told : (g : Gathered) (x : Next) → elseAsk (ruled (g .kind) (pathRules src o (at src o c (g .kind) x (inside t (g .node))))) (told (g .ruling) (g .ruled))
       ≡ told (settled g x .ruling) (settled g x .ruled)
   unfolding settled
   settle-told g x = rw (rule-at src o c (g .kind) x (inside t (g .node))) (go (decides (g .kind) x) refl)
     where
       go : (b : Bool) → decides (g .kind) x ≡ b
-          → orElse (cond b (Given (givenBy src o c (g .kind) (inside t (g .node)))) GoOn) (told (g .ruling) (g .ruled))
+          → elseAsk (cond b (Given (givenBy src o c (g .kind) (inside t (g .node)))) GoOn) (told (g .ruling) (g .ruled))
           ≡ told (cond b (g .kind) (g .ruling)) (cond b (g .node) (g .ruled))
-      go true e = unfold orElse in rw (decides-not-other (g .kind) x e)
-      go false e = unfold orElse in refl
+      go true e = unfold elseAsk in rw (decides-not-other (g .kind) x e)
+      go false e = unfold elseAsk in refl
 
   abbrev step : Gathered → Rec → Gathered
   step g r = stepped g (r .kind) (r .index)
 
   path-told : (l : List Rec) (p : Rec) (g : Gathered) → g .kind ≡ p .kind → g .node ≡ p .index
-      → orElse (byPath src t o c (p ∷ l)) (told (g .ruling) (g .ruled))
+      → elseAsk (byPath src t o c (p ∷ l)) (told (g .ruling) (g .ruled))
       ≡ told (settled (along step g l) Deepest .ruling) (settled (along step g l) Deepest .ruled)
-  unfolding byPath along nextOf orElse stepped
+  unfolding byPath along nextOf elseAsk stepped
   path-told [] p g e q = rw (← e, ← q) (settle-told g Deepest)
   path-told (r ∷ l) p g e q =
       else-assoc (byPath src t o c (r ∷ l)) _ _
-      ∙ ap (orElse (byPath src t o c (r ∷ l))) (rw (← e, ← q) (settle-told g (Above (r .kind))))
+      ∙ ap (elseAsk (byPath src t o c (r ∷ l))) (rw (← e, ← q) (settle-told g (Above (r .kind))))
       ∙ path-told l r (step g r) refl refl
 
   path-ruled : (p : List Rec) → byPath src t o c p ≡ told (gathered p .ruling) (gathered p .ruled)
@@ -115,4 +115,4 @@ pub analyzed-context : (src t : List ℕ) (o : ℕ) → analyzed src t o (gather
 unfolding analyzed contextAt ruledBy
 analyzed-context src t o =
     let p : List Rec = pathAt t o in
-    rw (gathered-statement p, trailing-numbered t o (deepest isStatement p), gathered-constrained p) (rw (path-ruled src t o (onPath joinConstraint p) p))
+    rw (gathered-statement p, trailing-numbered t o (deepest trails p), gathered-constrained p) (rw (path-ruled src t o (onPath joinConstraint p) p))

@@ -7,12 +7,13 @@ use Rattle.tokens.specs.declared.last_token.Name.the-variants.{Nameless, Named}
 use Rattle.cursor.specs.declared.context.CursorContext.{CursorContext}
 use Rattle.cursor.specs.declared.context.CursorContext.the-variants.{SelectExpression, TableReference, ColumnOfTable, Expression, SettingName, EngineName, FormatName, DataType, CodecName, FunctionArgument, StatementStart, Unknown}
 use Rattle.cursor.specs.declared.context.Coded.{Coded}
+use Rattle.table.specs.Ranges.{absent, absentNumber}
 
 -- ---- the numbers and values of the contexts
 
 -- 4294967295 twice where there is no name
 unfoldable pub rangeOf : Name → Range
-rangeOf Nameless = record { start = 4294967295; end = 4294967295 }
+rangeOf Nameless = absent
 rangeOf (Named r) = r
 
 -- a context's number, its name's range, and its argument index
@@ -41,7 +42,7 @@ coded Unknown = code 12 Nameless 0
 -- a function's name, where there is one, starts before 4294967295: it is then told apart from none
 unfoldable pub Starts : Name → Type 0
 Starts Nameless = Unit
-Starts (Named r) = r .start < 4294967295
+Starts (Named r) = r .start < absentNumber
 
 unfoldable pub Ranged : CursorContext → Type 0
 Ranged SelectExpression = Unit

@@ -55,54 +55,54 @@ column src o k f = columnOr (cond (eqb k selectClause) SelectExpression Expressi
 -- ---- the rules
 
 -- a rule: its number, the kinds that it speaks of, when it applies to a node of such a kind, and what it then gives
-pub record Rule : Type 0 where
+pub record NodeRule : Type 0 where
   pub number : ℕ
   pub kinds : List ℕ
   pub applies : Bool
   pub gives : CursorContext
 
-abbrev rule : ℕ → List ℕ → Bool → CursorContext → Rule
-rule n ks a c = record { number = n; kinds = ks; applies = a; gives = c }
+abbrev nodeRule : ℕ → List ℕ → Bool → CursorContext → NodeRule
+nodeRule n ks a c = record { number = n; kinds = ks; applies = a; gives = c }
 
-abbrev pub fromRule : List ℕ → ℕ → Seen → Rule
-fromRule src o n = rule 2 (fromClause ∷ []) true (tableReference src o (n .children))
+abbrev pub fromRule : List ℕ → ℕ → Seen → NodeRule
+fromRule src o n = nodeRule 2 (fromClause ∷ []) true (tableReference src o (n .children))
 
-abbrev pub joinRule : List ℕ → ℕ → Seen → Rule
-joinRule src o n = rule 3 (joinClause ∷ []) true (joined src o (n .constrained) (n .children))
+abbrev pub joinRule : List ℕ → ℕ → Seen → NodeRule
+joinRule src o n = nodeRule 3 (joinClause ∷ []) true (joined src o (n .constrained) (n .children))
 
-abbrev pub insertRule : List ℕ → ℕ → Seen → Rule
-insertRule src o n = rule 4 (insertStatement ∷ []) (deepestOver tableIdentifier (n .next)) (tableReference src o (n .children))
+abbrev pub insertRule : List ℕ → ℕ → Seen → NodeRule
+insertRule src o n = nodeRule 4 (insertStatement ∷ []) (deepestOver tableIdentifier (n .next)) (tableReference src o (n .children))
 
-abbrev pub settingsRule : List ℕ → ℕ → Seen → Rule
-settingsRule src o n = rule 5 (settingsClause ∷ settingList ∷ []) true SettingName
+abbrev pub settingsRule : List ℕ → ℕ → Seen → NodeRule
+settingsRule src o n = nodeRule 5 (settingsClause ∷ settingList ∷ []) true SettingName
 
-abbrev pub engineRule : List ℕ → ℕ → Seen → Rule
-engineRule src o n = rule 6 (engineClause ∷ []) true EngineName
+abbrev pub engineRule : List ℕ → ℕ → Seen → NodeRule
+engineRule src o n = nodeRule 6 (engineClause ∷ []) true EngineName
 
-abbrev pub formatRule : List ℕ → ℕ → Seen → Rule
-formatRule src o n = rule 7 (formatClause ∷ insertFormatClause ∷ []) true FormatName
+abbrev pub formatRule : List ℕ → ℕ → Seen → NodeRule
+formatRule src o n = nodeRule 7 (formatClause ∷ insertFormatClause ∷ []) true FormatName
 
-abbrev pub typeRule : List ℕ → ℕ → Seen → Rule
-typeRule src o n = rule 8 (columnTypeDefinition ∷ dataType ∷ dataTypeParameters ∷ []) true DataType
+abbrev pub typeRule : List ℕ → ℕ → Seen → NodeRule
+typeRule src o n = nodeRule 8 (columnTypeDefinition ∷ dataType ∷ dataTypeParameters ∷ []) true DataType
 
-abbrev pub definitionRule : List ℕ → ℕ → Seen → Rule
-definitionRule src o n = rule 9 (columnDefinition ∷ []) (deepestOver error (n .next)) DataType
+abbrev pub definitionRule : List ℕ → ℕ → Seen → NodeRule
+definitionRule src o n = nodeRule 9 (columnDefinition ∷ []) (deepestOver error (n .next)) DataType
 
-abbrev pub codecRule : List ℕ → ℕ → Seen → Rule
-codecRule src o n = rule 10 (columnCodec ∷ []) true CodecName
+abbrev pub codecRule : List ℕ → ℕ → Seen → NodeRule
+codecRule src o n = nodeRule 10 (columnCodec ∷ []) true CodecName
 
-abbrev pub functionRule : List ℕ → ℕ → Seen → Rule
-functionRule src o n = rule 11 (functionCall ∷ aggregateFunction ∷ []) true (functionArgument o (n .children))
+abbrev pub functionRule : List ℕ → ℕ → Seen → NodeRule
+functionRule src o n = nodeRule 11 (functionCall ∷ aggregateFunction ∷ []) true (functionArgument o (n .children))
 
-abbrev pub columnRule : List ℕ → ℕ → Seen → Rule
+abbrev pub columnRule : List ℕ → ℕ → Seen → NodeRule
 columnRule src o n =
-    rule 12 (selectClause ∷ prewhereClause ∷ whereClause ∷ groupByClause ∷ havingClause ∷ orderByClause ∷ []) true
+    nodeRule 12 (selectClause ∷ prewhereClause ∷ whereClause ∷ groupByClause ∷ havingClause ∷ orderByClause ∷ []) true
     (column src o (n .kind) (n .children))
 
-abbrev pub startRule : List ℕ → ℕ → Seen → Rule
-startRule src o n = rule 13 (file ∷ queryList ∷ []) (isDeepest (n .next)) StatementStart
+abbrev pub startRule : List ℕ → ℕ → Seen → NodeRule
+startRule src o n = nodeRule 13 (file ∷ queryList ∷ []) (isDeepest (n .next)) StatementStart
 
-unfoldable pub pathRules : List ℕ → ℕ → Seen → List Rule
+unfoldable pub pathRules : List ℕ → ℕ → Seen → List NodeRule
 pathRules src o n =
     fromRule src o n
     ∷ joinRule src o n
@@ -119,7 +119,7 @@ pathRules src o n =
     ∷ []
 
 -- what the rule that speaks of kind k gives, if it applies; all others go on
-unfoldable pub ruled : ℕ → List Rule → Answer
+unfoldable pub ruled : ℕ → List NodeRule → Answer
 ruled k [] = GoOn
 ruled k (r ∷ rs) =
     let given : Answer = cond (r .applies) (Given (r .gives)) GoOn in
@@ -129,9 +129,9 @@ ruled k (r ∷ rs) =
 -- ---- deepest first
 
 -- this answer, or where it goes on the other
-unfoldable pub orElse : Answer → Answer → Answer
-orElse GoOn other = other
-orElse (Given c) other = Given c
+unfoldable pub elseAsk : Answer → Answer → Answer
+elseAsk GoOn other = other
+elseAsk (Given c) other = Given c
 
 -- a node as the rules see it, where `deeper` is what the path has below it
 abbrev pub seen : List ℕ → Bool → Rec → List Rec → Seen
@@ -142,7 +142,7 @@ seen t constrained r deeper =
 unfoldable pub byPath : List ℕ → List ℕ → ℕ → Bool → List Rec → Answer
 byPath src t o constrained [] = GoOn
 byPath src t o constrained (r ∷ deeper) =
-    orElse (byPath src t o constrained deeper) (ruled (r .kind) (pathRules src o (seen t constrained r deeper)))
+    elseAsk (byPath src t o constrained deeper) (ruled (r .kind) (pathRules src o (seen t constrained r deeper)))
 
 -- rules 2 to 13
 abbrev pub pathRule : List ℕ → List ℕ → ℕ → List Rec → Answer

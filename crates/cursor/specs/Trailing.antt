@@ -14,7 +14,7 @@ use Rattle.cursor.specs.declared.context.Answer.{Answer}
 use Rattle.cursor.specs.declared.context.Answer.the-variants.{GoOn, Given}
 use Rattle.cursor.specs.declared.trailing.Clause.{Clause}
 use Rattle.cursor.specs.declared.trailing.Clause.the-variants.{NoClause, Ends}
-use Rattle.path.specs.Path.{oneOf, deepest, isStatement}
+use Rattle.path.specs.Path.{oneOf, deepest, trails}
 
 -- the last child node with start ≤ offset, where best is the last so far; empty nodes count
 unfoldable pub lastClause : ℕ → Clause → Forest → Clause
@@ -44,4 +44,4 @@ trailingIn t o (some r) = pastEnd o (lastClause o NoClause (inside t (r .index))
 
 -- rule 1
 abbrev pub trailingRule : List ℕ → ℕ → List Rec → Answer
-trailingRule t o p = trailingIn t o (deepest isStatement p)
+trailingRule t o p = trailingIn t o (deepest trails p)

@@ -41,12 +41,14 @@ pub enum Answer {
     Given(CursorContext),
 }
 
+// A context as numbers: its own, its name's range and its argument's index.
 pub struct Coded {
     pub number: usize,
     pub name: Range,
     pub index: usize,
 }
 
+// The range of a name, absent where there is none.
 fn range_of(name: Name) -> Range
     ensures { λ r. ⌜ r ≡ rangeOf name ⌝ }
 {
@@ -59,6 +61,7 @@ fn range_of(name: Name) -> Range
     }
 }
 
+// A table reference has one number without a prefix and another with one.
 fn reference_number(prefix: Name) -> usize
     ensures { λ r. ⌜ r ≡ referenceNumber prefix ⌝ }
 {
@@ -68,6 +71,7 @@ fn reference_number(prefix: Name) -> usize
     }
 }
 
+// A context by its number, its name and its index.
 fn code(number: usize, name: Name, index: usize) -> Coded
     ensures { λ r. ⌜ r ≡ code number name index ⌝ }
 {
@@ -79,6 +83,7 @@ fn code(number: usize, name: Name, index: usize) -> Coded
     }
 }
 
+// The numbers of a context.
 pub fn code_of(c: CursorContext) -> Coded
     ensures { λ r. ⌜ r ≡ coded c ⌝ }
 {

@@ -19,7 +19,7 @@ use tokens::last_token::token_before_offset;
 ghost use mathlib.Core.Path.{_≡_};
 ghost use Prim.Native.Nat.{_<_};
 ghost use lib.ListN.{length};
-ghost use Rattle.table.specs.Table.{count};
+ghost use Rattle.table.specs.Table.{count, wordLimit};
 ghost use Rattle.table.specs.Rules.{verdict};
 ghost use Rattle.path.specs.inner.Gathered.{Within};
 ghost use Rattle.cursor.specs.inner.Steps.{analyzed};
@@ -41,6 +41,7 @@ fn at_statement_start(table: &[u8], source: &[u8], offset: usize) -> CursorConte
     CursorContext::Unknown
 }
 
+// There is no last token, or it is `;`.
 fn starts_after(source: &[u8], last: Name) -> bool
     ensures { λ r. ⌜ r ≡ startsAfter (now (source .entry)) last ⌝ }
 {
@@ -66,8 +67,9 @@ fn analyze_path(table: &[u8], source: &[u8], offset: usize, path: Gathered) -> C
     at_statement_start(table, source, offset)
 }
 
+// The context, for a table that is admitted.
 fn context_at(table: &[u8], source: &[u8], offset: usize) -> CursorContext
-    requires { ⌜ (0 < count (now table)) × (count (now table) < 4294967296) ⌝ }
+    requires { ⌜ (0 < count (now table)) × (count (now table) < wordLimit) ⌝ }
     ensures { λ r. ⌜ r ≡ contextAt (now (source .entry)) (now (table .entry)) offset ⌝ }
 {
     let path = find_node_path(table, offset);

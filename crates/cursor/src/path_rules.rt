@@ -71,6 +71,7 @@ fn join_context(s: &[u8], source: &[u8], offset: usize, constrained: bool) -> Cu
     }
 }
 
+// FunctionArgument, with the function's name and the argument's index.
 fn function_argument(s: &[u8], offset: usize) -> CursorContext
     ensures { λ r. ⌜ ((base : ℕ) → r ≡ functionArgument offset (kids (records base (now (s .entry))))) ⌝ }
 {

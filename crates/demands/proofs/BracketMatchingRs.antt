@@ -12,7 +12,7 @@ use Rattle.table.specs.Table.{records}
 use Rattle.table.specs.Forest.{Forest, nil, token, node, kids}
 use Rattle.table.specs.Text.{bytesOf}
 use Rattle.brackets.specs.declared.bracket_matching.Hint.the-variants.{Opener, NoOpener}
-use Rattle.brackets.specs.Brackets.{fits, closed, stepped, left, stackLeft, indexOf, holding, lastOf, hintOf}
+use Rattle.brackets.specs.Brackets.{fits, closed, stackStep, left, stackLeft, indexOf, holding, lastOpener, hintOf}
 use Rattle.path.specs.Path.{oneOf}
 use Rattle.demands.specs.Rust.{push, last, pop, find}
 use Rattle.demands.specs.BracketMatchingRs.{matches, popMatching, bracket, «collect_brackets», closer, findOpener, enrich, hint, BracketMatchingRs}
@@ -41,8 +41,8 @@ close-same k (o ∷ s) = rw (reverse-cons o s, last-push (reverse s) o, pop-push
     go false = sym (reverse-cons o s)
 
 -- a token
-bracket-same : (t : Rec) (s : List Rec) → bracket t (reverse s) ≡ reverse (stepped s t)
-unfolding bracket stepped
+bracket-same : (t : Rec) (s : List Rec) → bracket t (reverse s) ≡ reverse (stackStep s t)
+unfolding bracket stackStep
 bracket-same t s =
     rw (range-list 2 137 (t .kind), range-list 2 140 (t .kind), close-same (t .kind) s)
     (go (oneOf (137 ∷ 138 ∷ 139 ∷ []) (t .kind)) (oneOf (140 ∷ 141 ∷ 142 ∷ []) (t .kind)))
@@ -55,18 +55,18 @@ bracket-same t s =
 collect-same : (f : Forest) (s : List Rec) → «collect_brackets» f (reverse s) ≡ reverse (left s f)
 unfolding «collect_brackets» left
 collect-same nil s = refl
-collect-same (token t rest) s = rw (bracket-same t s) (collect-same rest (stepped s t))
+collect-same (token t rest) s = rw (bracket-same t s) (collect-same rest (stackStep s t))
 collect-same (node r below rest) s = rw (collect-same below s) (collect-same rest (left s below))
 
 -- ---- the answers
 
-find-same : (k : ℕ) (s : List Rec) → hint (find (λ (b : Rec). eqb (b .kind) k) s) ≡ lastOf k s
-unfolding find lastOf hint
+find-same : (k : ℕ) (s : List Rec) → hint (find (λ (b : Rec). eqb (b .kind) k) s) ≡ lastOpener k s
+unfolding find lastOpener hint
 find-same k [] = refl
 find-same k (o ∷ s) = go (eqb (o .kind) k) (find-same k s)
   where
-    go : (b : Bool) → hint (find (λ (b : Rec). eqb (b .kind) k) s) ≡ lastOf k s
-        → hint (cond b (some o) (find (λ (b : Rec). eqb (b .kind) k) s)) ≡ cond b (Opener (o .index)) (lastOf k s)
+    go : (b : Bool) → hint (find (λ (b : Rec). eqb (b .kind) k) s) ≡ lastOpener k s
+        → hint (cond b (some o) (find (λ (b : Rec). eqb (b .kind) k) s)) ≡ cond b (Opener (o .index)) (lastOpener k s)
     go true ih = refl
     go false ih = ih
 
@@ -75,11 +75,11 @@ unfolding closer hintOf findOpener hint
 hint-same m s =
     go (holding (bytesOf "expected )") m) (holding (bytesOf "expected ]") m) (holding (bytesOf "expected }") m)
   where
-    opener : (k : ℕ) → hint (findOpener (reverse s) (some k)) ≡ lastOf k s
+    opener : (k : ℕ) → hint (findOpener (reverse s) (some k)) ≡ lastOpener k s
     opener k = rw (reverse-reverse s) (find-same k s)
 
     go : (a b c : Bool) → hint (findOpener (reverse s) (cond a (some openingRound) (cond b (some openingSquare) (cond c (some openingCurly) none))))
-        ≡ cond a (lastOf openingRound s) (cond b (lastOf openingSquare s) (cond c (lastOf openingCurly s) NoOpener))
+        ≡ cond a (lastOpener openingRound s) (cond b (lastOpener openingSquare s) (cond c (lastOpener openingCurly s) NoOpener))
     go true b c = opener openingRound
     go false true c = opener openingSquare
     go false false true = opener openingCurly

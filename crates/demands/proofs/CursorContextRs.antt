@@ -36,14 +36,14 @@ use Rattle.path.specs.declared.gathered.Next.{Next}
 use Rattle.path.specs.declared.gathered.Next.the-variants.{Deepest, Above}
 use Rattle.cursor.specs.declared.context.CursorContext.{CursorContext}
 use Rattle.cursor.specs.declared.context.CursorContext.the-variants.{SelectExpression, TableReference, Expression, SettingName, EngineName, FormatName, DataType, CodecName, StatementStart}
-use Rattle.path.specs.Path.{pathAt, oneOf, deepestOr, deepest, onPath, isStatement, nextOf, isDeepest, deepestOver}
+use Rattle.path.specs.Path.{pathAt, oneOf, deepestOr, deepest, onPath, trails, nextOf, isDeepest, deepestOver}
 use Rattle.tokens.specs.LastToken.{named, counted, entered, reading, lastOr, init, lastTwo, isText, dot, dotted, isJoinWord, isWord as isWordIn}
 use Rattle.tokens.specs.Function.{bareWordIn, orName, functionName, opens, argued, arguments}
 use Rattle.cursor.specs.Trailing.{lastClause as lastClauseIn, pastClause as pastKind, pastEnd, trailingIn, trailingRule}
-use Rattle.cursor.specs.PathRules.{Seen, tableReference, joined, functionArgument, columnOr, column, pathRules, ruled, orElse, seen, byPath, pathRule}
+use Rattle.cursor.specs.PathRules.{Seen, tableReference, joined, functionArgument, columnOr, column, pathRules, ruled, elseAsk, seen, byPath, pathRule}
 use Rattle.cursor.specs.CursorContext.{startsAfter, lastRule, givenOr, contextAt}
 use Rattle.demands.specs.Rust.{push, find}
-use Rattle.demands.specs.CursorContextRs.{textOf, returnOr, PathNode, descend, «find_node_path», Before, skipped, «token_before_impl», «token_before_offset», isWord, saysWord, Prev, «find_ident_before_dot_impl», beforeDot, «find_identifier_before_dot», «table_ref_or_dot», columnOf, «check_dot_access», firstBareWord, «extract_function_name», Commas, «count_commas_impl», «count_commas_before», isStatementLike, lastClause, trailing, pastClause, trailingOf, «check_trailing_clause», isLast, isLastOr, met, joinArm, arm, ancestors, startsNext, fallback, «analyze_path», «cursor_context», nameOf, CursorContextRs}
+use Rattle.demands.specs.CursorContextRs.{textOf, returnOr, PathNode, descend, «find_node_path», Before, skipped, «token_before_impl», «token_before_offset», textIs, saysWord, Prev, «find_ident_before_dot_impl», beforeDot, «find_identifier_before_dot», «table_ref_or_dot», columnOf, «check_dot_access», firstBareWord, «extract_function_name», Commas, «count_commas_impl», «count_commas_before», isStatementLike, clauseBefore, trailing, clauseGives, trailingOf, «check_trailing_clause», isLast, isLastOr, met, joinArm, arm, ancestors, startsNext, fallback, «analyze_path», «cursor_context», textName, CursorContextRs}
 use Rattle.demands.proofs.KindLists.{range-list}
 use Rattle.demands.proofs.Starts.{Rises, fold-late, Rooted, inside-rises, inside-rooted}
 
@@ -62,24 +62,24 @@ module _ (o : ℕ) where
   abbrev lasting : Reading Name
   lasting = ofTokens naming counts enters
 
-  before-fold : (f : Forest) (k : ℕ) (best : Option Before) → nameOf («token_before_impl» f o k best) ≡ fold lasting (nameOf best) f
-  unfolding «token_before_impl» fold nameOf
+  before-fold : (f : Forest) (k : ℕ) (best : Option Before) → textName («token_before_impl» f o k best) ≡ fold lasting (textName best) f
+  unfolding «token_before_impl» fold textName
   before-fold nil k best = refl
   before-fold (token r rest) k best = go (skipped (r .kind)) (leb (r .start) o) (before-fold rest k)
     where
-      go : (s l : Bool) → ((b : Option Before) → nameOf («token_before_impl» rest o k b) ≡ fold lasting (nameOf b) rest)
-          → nameOf (cond s («token_before_impl» rest o k best) («token_before_impl» rest o k (cond l (some (record { text = textOf r; parent = k })) best)))
-          ≡ fold lasting (cond (l && not s) (named r) (nameOf best)) rest
+      go : (s l : Bool) → ((b : Option Before) → textName («token_before_impl» rest o k b) ≡ fold lasting (textName b) rest)
+          → textName (cond s («token_before_impl» rest o k best) («token_before_impl» rest o k (cond l (some (record { text = textOf r; parent = k })) best)))
+          ≡ fold lasting (cond (l && not s) (named r) (textName best)) rest
       go true true ih = ih best
       go true false ih = ih best
       go false true ih = ih _
       go false false ih = ih best
   before-fold (node r below rest) k best = go (ltb (r .end) (r .start)) (leb (r .start) o) (before-fold below (r .kind) best) (before-fold rest k)
     where
-      go : (e l : Bool) → nameOf («token_before_impl» below o (r .kind) best) ≡ fold lasting (nameOf best) below
-          → ((b : Option Before) → nameOf («token_before_impl» rest o k b) ≡ fold lasting (nameOf b) rest)
-          → nameOf (cond e («token_before_impl» rest o k best) («token_before_impl» rest o k (cond l («token_before_impl» below o (r .kind) best) best)))
-          ≡ fold lasting (cond (not e && l) (fold lasting (nameOf best) below) (nameOf best)) rest
+      go : (e l : Bool) → textName («token_before_impl» below o (r .kind) best) ≡ fold lasting (textName best) below
+          → ((b : Option Before) → textName («token_before_impl» rest o k b) ≡ fold lasting (textName b) rest)
+          → textName (cond e («token_before_impl» rest o k best) («token_before_impl» rest o k (cond l («token_before_impl» below o (r .kind) best) best)))
+          ≡ fold lasting (cond (not e && l) (fold lasting (textName best) below) (textName best)) rest
       go true l ib ir = ir best
       go false true ib ir = ir _ ∙ rw ib
       go false false ib ir = ir best
@@ -89,8 +89,8 @@ module _ (o : ℕ) where
   along-last n [] = refl
   along-last n (r ∷ l) = along-last (named r) l
 
-  before-same : (r : Rec) (f : Forest) → nameOf («token_before_offset» r f o) ≡ lastTwo o f .last
-  unfolding «token_before_offset» lastTwo nameOf
+  before-same : (r : Rec) (f : Forest) → textName («token_before_offset» r f o) ≡ lastTwo o f .last
+  unfolding «token_before_offset» lastTwo textName
   before-same r f = before-fold f (r .kind) none ∙ fold-tokens naming counts enters f Nameless ∙ along-last Nameless (reading o f)
 
   -- ---- the two before it
@@ -169,17 +169,17 @@ module _ (o : ℕ) where
     unfolding «find_identifier_before_dot»
     identifier-same f w = dot-same (twoOf («find_ident_before_dot_impl» f o unread)) ∙ ap (dotted src) (ident-two f w)
 
-    word-same : (w : List ℕ) (b : Option Before) → isWord w src b ≡ isText w src (nameOf b)
-    unfolding isWord isText nameOf
+    word-same : (w : List ℕ) (b : Option Before) → textIs w src b ≡ isText w src (textName b)
+    unfolding textIs isText textName
     word-same w none = refl
     word-same w (some b) = refl
 
-    says-same : (w : List ℕ) (b : Option Before) → saysWord w src b ≡ isWordIn w src (nameOf b)
-    unfolding saysWord isWordIn nameOf
+    says-same : (w : List ℕ) (b : Option Before) → saysWord w src b ≡ isWordIn w src (textName b)
+    unfolding saysWord isWordIn textName
     says-same w none = refl
     says-same w (some b) = refl
 
-    dot-before : (n : PathNode) → isWord (bytesOf ".") src («token_before_offset» (n .tree) (n .children) o) ≡ isText dot src (lastTwo o (n .children) .last)
+    dot-before : (n : PathNode) → textIs (bytesOf ".") src («token_before_offset» (n .tree) (n .children) o) ≡ isText dot src (lastTwo o (n .children) .last)
     unfolding bytesOf
     dot-before n = word-same dot («token_before_offset» (n .tree) (n .children) o) ∙ ap (isText dot src) (before-same (n .tree) (n .children))
 
@@ -335,14 +335,14 @@ clauseOf : Option Rec → Clause
 clauseOf none = NoClause
 clauseOf (some r) = Ends (r .kind) (r .end)
 
-clause-same : (o : ℕ) (f : Forest) (best : Option Rec) → clauseOf (lastClause f o best) ≡ lastClauseIn o (clauseOf best) f
-unfolding lastClause lastClauseIn clauseOf
+clause-same : (o : ℕ) (f : Forest) (best : Option Rec) → clauseOf (clauseBefore f o best) ≡ lastClauseIn o (clauseOf best) f
+unfolding clauseBefore lastClauseIn clauseOf
 clause-same o nil best = refl
 clause-same o (token r rest) best = clause-same o rest best
 clause-same o (node r below rest) best = go (leb (r .start) o) (clause-same o rest)
   where
-    go : (b : Bool) → ((x : Option Rec) → clauseOf (lastClause rest o x) ≡ lastClauseIn o (clauseOf x) rest)
-        → clauseOf (lastClause rest o (cond b (some r) best)) ≡ lastClauseIn o (cond b (Ends (r .kind) (r .end)) (clauseOf best)) rest
+    go : (b : Bool) → ((x : Option Rec) → clauseOf (clauseBefore rest o x) ≡ lastClauseIn o (clauseOf x) rest)
+        → clauseOf (clauseBefore rest o (cond b (some r) best)) ≡ lastClauseIn o (cond b (Ends (r .kind) (r .end)) (clauseOf best)) rest
     go true ih = ih _
     go false ih = ih best
 
@@ -368,8 +368,8 @@ trailing-same k =
     go false false false false false false true = refl
     go false false false false false false false = refl
 
-past-same : (o : ℕ) (c : Option Rec) → answer (pastClause o c) ≡ pastEnd o (clauseOf c)
-unfolding pastClause pastEnd clauseOf answer
+past-same : (o : ℕ) (c : Option Rec) → answer (clauseGives o c) ≡ pastEnd o (clauseOf c)
+unfolding clauseGives pastEnd clauseOf answer
 past-same o none = refl
 past-same o (some r) =
     ⊎-elim
@@ -384,11 +384,11 @@ module _ (t : List ℕ) where
 
   -- the first of a list read backwards is the deepest
   find-deepest : (p : List Rec) (above : List PathNode) (best : Option Rec) → find isStatementLike above ≡ picked best
-      → find isStatementLike (reverseAux (map (at t) p) above) ≡ picked (deepestOr best isStatement p)
+      → find isStatementLike (reverseAux (map (at t) p) above) ≡ picked (deepestOr best trails p)
   unfolding find deepestOr picked
   find-deepest [] above best e = e
   find-deepest (r ∷ p) above best e =
-      find-deepest p (at t r ∷ above) (cond (isStatement (r .kind)) (some r) best) (rw (← range-list 5 4 (r .kind)) (go (isStatement (r .kind))))
+      find-deepest p (at t r ∷ above) (cond (trails (r .kind)) (some r) best) (rw (← range-list 5 4 (r .kind)) (go (trails (r .kind))))
     where
       go : (b : Bool) → cond b (some (at t r)) (find isStatementLike above) ≡ picked (cond b (some r) best)
       go true = refl
@@ -396,11 +396,11 @@ module _ (t : List ℕ) where
 
   trailing-rule : (o : ℕ) (p : List Rec) → answer («check_trailing_clause» (map (at t) p) o) ≡ trailingRule t o p
   unfolding «check_trailing_clause» trailingOf trailingIn picked clauseOf answer
-  trailing-rule o p = rw (find-deepest p [] none (unfold find in refl)) (go (deepest isStatement p))
+  trailing-rule o p = rw (find-deepest p [] none (unfold find in refl)) (go (deepest trails p))
     where
       go : (x : Option Rec) → answer (trailingOf o (picked x)) ≡ trailingIn t o x
       go none = refl
-      go (some r) = past-same o (lastClause (inside t (r .index)) o none) ∙ ap (pastEnd o) (clause-same o (inside t (r .index)) none)
+      go (some r) = past-same o (clauseBefore (inside t (r .index)) o none) ∙ ap (pastEnd o) (clause-same o (inside t (r .index)) none)
 
 -- ---- the rules of the path
 
@@ -538,8 +538,8 @@ error-none : (src : List ℕ) (o k : ℕ) (n : Seen) → k ≡ 3 → ruled k (pa
 unfolding ruled pathRules
 error-none src o k n e = rw e
 
-given-both : (x y : Answer) (on : CursorContext) → givenOr (givenOr on y) x ≡ givenOr on (orElse x y)
-unfolding givenOr orElse
+given-both : (x y : Answer) (on : CursorContext) → givenOr (givenOr on y) x ≡ givenOr on (elseAsk x y)
+unfolding givenOr elseAsk
 given-both GoOn y on = refl
 given-both (Given c) y on = refl
 
@@ -588,8 +588,8 @@ module _ (src t : List ℕ) (o : ℕ) {m : ℕ} (tidy : Tidy t m) (path : List R
 
 -- ---- the theorem
 
-starts-same : (src : List ℕ) (b : Option Before) → startsNext src b ≡ startsAfter src (nameOf b)
-unfolding startsNext startsAfter nameOf isWord isText bytesOf
+starts-same : (src : List ℕ) (b : Option Before) → startsNext src b ≡ startsAfter src (textName b)
+unfolding startsNext startsAfter textName textIs isText bytesOf
 starts-same src none = refl
 starts-same src (some b) = refl
 

@@ -25,14 +25,14 @@ use Rattle.tables.specs.declared.pending.Pending.the-variants.{Nothing, Held}
 use Rattle.statement.specs.declared.statement.Enclosing.{Enclosing}
 use Rattle.statement.specs.declared.statement.Enclosing.the-variants.{Outside, Record}
 use Rattle.table.specs.Ranges.{span, holds}
-use Rattle.names.specs.Names.{byteAt, isAs, isPart, isName, direct, unquoted, nameOf, firstOf, lastOf, withItem, aliasIn, binding as bind}
-use Rattle.scope.specs.Collection.{entered, collected, collection, ownWith, ownColumns, ownTables}
-use Rattle.names.specs.Bindings.{entry, gathered, withItems, selectAliases}
-use Rattle.tables.specs.Tables.{fresh, aliased, Listing, handOn, listAlias, reading, references, aliases}
+use Rattle.names.specs.Names.{byteAt, isAs, isPart, isName, direct, unquoted, nameOf, firstNamed, lastNamed, withItem, aliasIn, binding as bind}
+use Rattle.scope.specs.Collection.{nodeGives, collected, collection, ownWith, ownColumns, ownTables}
+use Rattle.names.specs.Bindings.{entry, boundIn, withItems, selectAliases}
+use Rattle.tables.specs.Tables.{fresh, aliased, Listing, handOn, listAlias, tableReading, references, aliases}
 use Rattle.statement.specs.Statement.{itself, isStatement, orElse, firstFind, enclosingAt}
 use Rattle.roots.proofs.Counts.{decide}
 use Rattle.demands.specs.Rust.{push}
-use Rattle.demands.specs.ScopeRs.{Str, at, stopsAt, Binding, Reference, QueryScope, pushCte, pushTableAlias, pushColumnAlias, pushTableRef, startsWith, endsWith, inner, unquote, saysAs, bindingOf, «extract_cte», Ident, «extract_alias_name», parts, byParts, «extract_table_identifier», pushIfCte, «collect_ctes», flush, setAlias, pushAlias, «collect_table_refs», pushIfAlias, «collect_column_aliases», arms, eachChild, «collect_scope», «build_scope», isStatementKind, orReturn, enclosing, deeperStatement, rangeOf, rangeOr, binding, reference, found, Lone, ScopeRs}
+use Rattle.demands.specs.ScopeRs.{Str, at, stopsAt, Binding, Reference, QueryScope, pushCte, pushTableAlias, pushColumnAlias, pushTableRef, startsWith, endsWith, inner, unquote, saysAs, bindingOf, «extract_cte», Ident, «extract_alias_name», parts, byParts, «extract_table_identifier», pushIfCte, «collect_ctes», flush, setAlias, pushAlias, «collect_table_refs», pushIfAlias, «collect_column_aliases», arms, eachChild, «collect_scope», «build_scope», isStatementKind, orReturn, enclosing, deeperStatement, asRange, rangeOr, asBinding, reference, found, Lone, ScopeRs}
 use Rattle.demands.proofs.KindLists.{range-list}
 
 -- ---- names
@@ -41,28 +41,28 @@ module _ (s : Range) where
   abbrev cut : Range
   cut = record { start = s .start + 1; end = s .end - 1 }
 
-  same-cut : (b : Bool) → rangeOf (cond b (at cut) (at s)) ≡ cond b cut s
-  unfolding rangeOf
+  same-cut : (b : Bool) → asRange (cond b (at cut) (at s)) ≡ cond b cut s
+  unfolding asRange
   same-cut true = refl
   same-cut false = refl
 
-  one-cut : (b : Bool) → rangeOf (cond (b || false) (at cut) (at s)) ≡ cond b cut s
-  unfolding rangeOf
+  one-cut : (b : Bool) → asRange (cond (b || false) (at cut) (at s)) ≡ cond b cut s
+  unfolding asRange
   one-cut true = refl
   one-cut false = refl
 
-  same-whole : (b : Bool) → rangeOf (cond b (stopsAt s) (at s)) ≡ s
-  unfolding rangeOf
+  same-whole : (b : Bool) → asRange (cond b (stopsAt s) (at s)) ≡ s
+  unfolding asRange
   same-whole true = refl
   same-whole false = refl
 
   -- of the first byte x and the last byte z
-  marked : (x z : ℕ) → rangeOf (cond ((eqb x 96 && eqb z 96) || (eqb x 34 && eqb z 34)) (at cut) (at s)) ≡ cond ((eqb x 96 || eqb x 34) && eqb z x) cut s
-  unfolding rangeOf
+  marked : (x z : ℕ) → asRange (cond ((eqb x 96 && eqb z 96) || (eqb x 34 && eqb z 34)) (at cut) (at s)) ≡ cond ((eqb x 96 || eqb x 34) && eqb z x) cut s
+  unfolding asRange
   marked x z = decide x 96 (λ e. rw e (one-cut (eqb z 96))) (λ e. rw e (decide x 34 (λ q. rw q (same-cut (eqb z 34))) (λ q. rw q)))
 
 -- a name without its quotes
-unquote-same : (src : List ℕ) (s : Range) → rangeOf (unquote src s) ≡ unquoted src (s .start) (s .end)
+unquote-same : (src : List ℕ) (s : Range) → asRange (unquote src s) ≡ unquoted src (s .start) (s .end)
 unfolding unquote unquoted inner
 unquote-same src s =
     ⊎-elim
@@ -128,18 +128,18 @@ name-bare : (src : List ℕ) (t : Rec) → eqb (t .kind) 132 ≡ false → nameO
 unfolding nameOf
 name-bare src t e = rw e
 
-name-quoted : (src : List ℕ) (t : Rec) → eqb (t .kind) 132 ≡ true → nameOf src t ≡ rangeOf (unquote src (span t))
+name-quoted : (src : List ℕ) (t : Rec) → eqb (t .kind) 132 ≡ true → nameOf src t ≡ asRange (unquote src (span t))
 unfolding nameOf
 name-quoted src t e = rw e (sym (unquote-same src (span t)))
 
 -- what a WITH item binds, as document 01 has it; and what the alias r does
 boundBy : Option Binding → Bound
 boundBy none = Unnamed
-boundBy (some b) = Named (binding b)
+boundBy (some b) = Named (asBinding b)
 
 identBy : Rec → Option Ident → Bound
 identBy r none = Unnamed
-identBy r (some i) = Named (binding (bindingOf r (i .token) (i .name)))
+identBy r (some i) = Named (asBinding (bindingOf r (i .token) (i .name)))
 
 module _ (src : List ℕ) (r : Rec) where
   -- a binding of the token t by a name
@@ -149,29 +149,29 @@ module _ (src : List ℕ) (r : Rec) where
   abbrev names : Forest → List Rec
   names = direct (isName src)
 
-  cte-same : (f : Forest) → boundBy («extract_cte» r f src) ≡ firstOf src r (names f)
-  unfolding «extract_cte» direct firstOf boundBy isName isAs binding bind rangeOf
+  cte-same : (f : Forest) → boundBy («extract_cte» r f src) ≡ firstNamed src r (names f)
+  unfolding «extract_cte» direct firstNamed boundBy isName isAs asBinding bind asRange
   cte-same nil = refl
   cte-same (token t rest) = go (sort (t .kind)) (saysAs src t) refl (cte-same rest)
     where
-      go : Sort (t .kind) → (b : Bool) → saysAs src t ≡ b → boundBy («extract_cte» r rest src) ≡ firstOf src r (names rest)
-          → boundBy («extract_cte» r (token t rest) src) ≡ firstOf src r (names (token t rest))
+      go : Sort (t .kind) → (b : Bool) → saysAs src t ≡ b → boundBy («extract_cte» r rest src) ≡ firstNamed src r (names rest)
+          → boundBy («extract_cte» r (token t rest) src) ≡ firstNamed src r (names (token t rest))
       go (isBare x y) true e ih = rw (x, y, e) ih
       go (isBare x y) false e ih = rw (x, y, e) (ap (by t) (sym (name-bare src t y)))
       go (isQuoted x y) b e ih = rw (x, y) (ap (by t) (sym (name-quoted src t y)))
       go (isOther x y) b e ih = rw (x, y) ih
   cte-same (node q below rest) = cte-same rest
 
-  alias-same : (f : Forest) (i : Option Ident) → identBy r («extract_alias_name» f src i) ≡ lastOf src r (identBy r i) (names f)
-  unfolding «extract_alias_name» direct lastOf identBy isName isAs binding bind rangeOf
+  alias-same : (f : Forest) (i : Option Ident) → identBy r («extract_alias_name» f src i) ≡ lastNamed src r (identBy r i) (names f)
+  unfolding «extract_alias_name» direct lastNamed identBy isName isAs asBinding bind asRange
   alias-same nil i = refl
   alias-same (token t rest) i = go (sort (t .kind)) (saysAs src t) refl (alias-same rest)
     where
-      go : Sort (t .kind) → (b : Bool) → saysAs src t ≡ b → ((j : Option Ident) → identBy r («extract_alias_name» rest src j) ≡ lastOf src r (identBy r j) (names rest))
-          → identBy r («extract_alias_name» (token t rest) src i) ≡ lastOf src r (identBy r i) (names (token t rest))
+      go : Sort (t .kind) → (b : Bool) → saysAs src t ≡ b → ((j : Option Ident) → identBy r («extract_alias_name» rest src j) ≡ lastNamed src r (identBy r j) (names rest))
+          → identBy r («extract_alias_name» (token t rest) src i) ≡ lastNamed src r (identBy r i) (names (token t rest))
       go (isBare x y) true e ih = rw (x, y, e) (ih i)
-      go (isBare x y) false e ih = rw (x, y, e) (ih _ ∙ ap (λ (n : Range). lastOf src r (by t n) (names rest)) (sym (name-bare src t y)))
-      go (isQuoted x y) b e ih = rw (x, y) (ih _ ∙ ap (λ (n : Range). lastOf src r (by t n) (names rest)) (sym (name-quoted src t y)))
+      go (isBare x y) false e ih = rw (x, y, e) (ih _ ∙ ap (λ (n : Range). lastNamed src r (by t n) (names rest)) (sym (name-bare src t y)))
+      go (isQuoted x y) b e ih = rw (x, y) (ih _ ∙ ap (λ (n : Range). lastNamed src r (by t n) (names rest)) (sym (name-quoted src t y)))
       go (isOther x y) b e ih = rw (x, y) (ih i)
   alias-same (node q below rest) i = alias-same rest i
 
@@ -180,7 +180,7 @@ unfolding identBy
 alias-none src r f = alias-same src r f none
 
 -- the parts of a table's name
-parts-same : (f : Forest) (gathered : List Str) → parts f gathered ≡ gathered ++ map (λ (t : Rec). at (span t)) (direct isPart f)
+parts-same : (f : Forest) (boundIn : List Str) → parts f boundIn ≡ boundIn ++ map (λ (t : Rec). at (span t)) (direct isPart f)
 unfolding parts direct isPart
 parts-same nil g = sym (append-nil g)
 parts-same (token t rest) g = go (isPart t) refl (parts-same rest)
@@ -197,7 +197,7 @@ pend none = Nothing
 pend (some r) = Held (reference r)
 
 fresh-same : (r : Rec) (ts : List Rec) → pend (byParts r (map (λ (t : Rec). at (span t)) ts)) ≡ fresh (r .index) ts
-unfolding pend byParts fresh reference rangeOr rangeOf
+unfolding pend byParts fresh reference rangeOr asRange
 fresh-same r [] = refl
 fresh-same r (t ∷ []) = refl
 fresh-same r (d ∷ t ∷ []) = refl
@@ -207,7 +207,7 @@ identifier-same : (r : Rec) (f : Forest) → pend («extract_table_identifier» 
 identifier-same r f = rw (parts-same f []) (fresh-same r (direct isPart f))
 
 aliased-same : (r : Rec) (p : Option Reference) (i : Option Ident) → pend (setAlias p i) ≡ aliased (pend p) (identBy r i)
-unfolding pend setAlias aliased identBy reference rangeOr binding
+unfolding pend setAlias aliased identBy reference rangeOr asBinding
 aliased-same r none i = refl
 aliased-same r (some t) none = refl
 aliased-same r (some t) (some i) = refl
@@ -215,9 +215,9 @@ aliased-same r (some t) (some i) = refl
 -- ---- what a part of the pass adds
 
 record Grown (s s′ : QueryScope) (w a c : List NameBinding) (r : List TableRef) : Type 0 where
-  ctes : map binding (s′ .ctes) ≡ map binding (s .ctes) ++ w
-  tables : map binding (s′ .«table_aliases») ≡ map binding (s .«table_aliases») ++ a
-  columns : map binding (s′ .«column_aliases») ≡ map binding (s .«column_aliases») ++ c
+  ctes : map asBinding (s′ .ctes) ≡ map asBinding (s .ctes) ++ w
+  tables : map asBinding (s′ .«table_aliases») ≡ map asBinding (s .«table_aliases») ++ a
+  columns : map asBinding (s′ .«column_aliases») ≡ map asBinding (s .«column_aliases») ++ c
   refs : map reference (s′ .«table_refs») ≡ map reference (s .«table_refs») ++ r
 
 grown-none : (s : QueryScope) → Grown s s [] [] [] []
@@ -230,9 +230,9 @@ module _ {s s′ s″ : QueryScope} {w w′ a a′ c c′ : List NameBinding} {r
   grown-then : Grown s s′ w a c r → Grown s′ s″ w′ a′ c′ r′ → Grown s s″ (w ++ w′) (a ++ a′) (c ++ c′) (r ++ r′)
   grown-then p q =
       record {
-        ctes = then-grown (map binding (s .ctes)) w w′ (p .ctes) (q .ctes);
-        tables = then-grown (map binding (s .«table_aliases»)) a a′ (p .tables) (q .tables);
-        columns = then-grown (map binding (s .«column_aliases»)) c c′ (p .columns) (q .columns);
+        ctes = then-grown (map asBinding (s .ctes)) w w′ (p .ctes) (q .ctes);
+        tables = then-grown (map asBinding (s .«table_aliases»)) a a′ (p .tables) (q .tables);
+        columns = then-grown (map asBinding (s .«column_aliases»)) c c′ (p .columns) (q .columns);
         refs = then-grown (map reference (s .«table_refs»)) r r′ (p .refs) (q .refs);
       }
 
@@ -242,13 +242,13 @@ cte-grown : (s : QueryScope) (b : Option Binding) → Grown s (pushIfCte s b) (e
 unfolding pushIfCte pushCte entry boundBy
 cte-grown s none = grown-none s
 cte-grown s (some b) =
-    record { ctes = map-append binding (s .ctes) (b ∷ []); tables = sym (append-nil _); columns = sym (append-nil _); refs = sym (append-nil _) }
+    record { ctes = map-append asBinding (s .ctes) (b ∷ []); tables = sym (append-nil _); columns = sym (append-nil _); refs = sym (append-nil _) }
 
 column-grown : (s : QueryScope) (r : Rec) (i : Option Ident) → Grown s (pushIfAlias s r i) [] [] (entry (identBy r i)) []
 unfolding pushIfAlias pushColumnAlias entry identBy
 column-grown s r none = grown-none s
 column-grown s r (some i) =
-    record { ctes = sym (append-nil _); tables = sym (append-nil _); columns = map-append binding (s .«column_aliases») (bindingOf r (i .token) (i .name) ∷ []); refs = sym (append-nil _) }
+    record { ctes = sym (append-nil _); tables = sym (append-nil _); columns = map-append asBinding (s .«column_aliases») (bindingOf r (i .token) (i .name) ∷ []); refs = sym (append-nil _) }
 
 flush-grown : (s : QueryScope) (p : Option Reference) → Grown s (flush p s) [] (handOn aliases (pend p)) [] (handOn references (pend p))
 unfolding flush pushTableRef handOn pend
@@ -262,7 +262,7 @@ unfolding pushAlias pushTableAlias listAlias pend identBy
 alias-grown s r none i = grown-none s
 alias-grown s r (some t) none = grown-none s
 alias-grown s r (some t) (some i) =
-    record { ctes = sym (append-nil _); tables = map-append binding (s .«table_aliases») (bindingOf r (i .token) (i .name) ∷ []); columns = sym (append-nil _); refs = sym (append-nil _) }
+    record { ctes = sym (append-nil _); tables = map-append asBinding (s .«table_aliases») (bindingOf r (i .token) (i .name) ∷ []); columns = sym (append-nil _); refs = sym (append-nil _) }
 
 -- ---- the collections
 
@@ -287,7 +287,7 @@ clause k =
 
 module _ (src : List ℕ) where
   ctes-grown : (f : Forest) (s : QueryScope) → Grown s («collect_ctes» f src s) (withItems src f) [] [] []
-  unfolding «collect_ctes» gathered
+  unfolding «collect_ctes» boundIn
   ctes-grown nil s = grown-none s
   ctes-grown (token t rest) s = ctes-grown rest s
   ctes-grown (node r below rest) s = grown-then (go (eqb (r .kind) 29) (eqb (r .kind) 31) (ctes-grown below s)) (ctes-grown rest _)
@@ -300,7 +300,7 @@ module _ (src : List ℕ) where
       go false false ih = grown-none s
 
   columns-grown : (f : Forest) (s : QueryScope) → Grown s («collect_column_aliases» f src s) [] [] (selectAliases src f) []
-  unfolding «collect_column_aliases» gathered
+  unfolding «collect_column_aliases» boundIn
   columns-grown nil s = grown-none s
   columns-grown (token t rest) s = columns-grown rest s
   columns-grown (node r below rest) s =
@@ -315,7 +315,7 @@ module _ (src : List ℕ) where
 
   -- what the reading of f with q pending adds
   abbrev Read : Pending → Forest → QueryScope → QueryScope → Type 0
-  Read q f s s′ = Grown s s′ [] (reading aliases src q f) [] (reading references src q f)
+  Read q f s s′ = Grown s s′ [] (tableReading aliases src q f) [] (tableReading references src q f)
 
   module _ (r : Rec) (below rest : Forest) (p : Option Reference) (s : QueryScope)
       (ib : (s : QueryScope) → Read (pend none) below s («collect_table_refs» none below src s))
@@ -326,10 +326,10 @@ module _ (src : List ℕ) where
     -- what a node gives, by its kind
     abbrev listed : {E : Type 0} → Listing E → Bool → Bool → Bool → Bool → List E
     listed L a b c d =
-        cond a (handOn L (pend p) ++ reading L src (fresh (r .index) (direct isPart below)) rest)
-        (cond b (listAlias L (pend p) (aliasIn src r below) ++ reading L src (aliased (pend p) (aliasIn src r below)) rest)
-        (cond c (reading L src Nothing below ++ reading L src (pend p) rest)
-        (cond d (handOn L (pend p) ++ (reading L src Nothing below ++ reading L src Nothing rest)) (reading L src (pend p) rest))))
+        cond a (handOn L (pend p) ++ tableReading L src (fresh (r .index) (direct isPart below)) rest)
+        (cond b (listAlias L (pend p) (aliasIn src r below) ++ tableReading L src (aliased (pend p) (aliasIn src r below)) rest)
+        (cond c (tableReading L src Nothing below ++ tableReading L src (pend p) rest)
+        (cond d (handOn L (pend p) ++ (tableReading L src Nothing below ++ tableReading L src Nothing rest)) (tableReading L src (pend p) rest))))
 
     abbrev pushed : Bool → Bool → Bool → Bool → QueryScope
     pushed a b c d =
@@ -348,7 +348,7 @@ module _ (src : List ℕ) where
     node-grown false false false false = ir p s
 
   tables-grown : (f : Forest) (p : Option Reference) (s : QueryScope) → Read (pend p) f s («collect_table_refs» p f src s)
-  unfolding «collect_table_refs» reading
+  unfolding «collect_table_refs» tableReading
   tables-grown nil p s = flush-grown s p
   tables-grown (token t rest) p s = tables-grown rest p s
   tables-grown (node r below rest) p s =
@@ -361,11 +361,11 @@ module _ (src : List ℕ) where
 
   module _ (k : ℕ) (f : Forest) (s : QueryScope) (ih : (s : QueryScope) → All s (eachChild f src s) f) where
     abbrev visited : {E : Type 0} → (ℕ → Forest → List E) → List E
-    visited own = entered own k f (collected own f)
+    visited own = nodeGives own k f (collected own f)
 
     clause-grown : Clause k → Grown s (cond (eqb k 14) («collect_ctes» f src s) (eachChild f src (arms k f src s)))
         (visited (ownWith src)) (visited (ownTables aliases src)) (visited (ownColumns src)) (visited (ownTables references src))
-    unfolding entered ownWith ownTables ownColumns arms pend
+    unfolding nodeGives ownWith ownTables ownColumns arms pend
     clause-grown (isWith a b c) = rw (a, b, c, append-nil (withItems src f)) (ctes-grown f s)
     clause-grown (isTables a b c) = rw (a, b, c) (grown-then (tables-grown f none s) (ih _))
     clause-grown (isSelect a b c) = rw (a, b, c) (grown-then (columns-grown f s) (ih _))

@@ -84,9 +84,9 @@ unfoldable pub «token_before_offset» : Rec → Forest → ℕ → Option Befor
 «token_before_offset» tree children offset = «token_before_impl» children offset (tree .kind) none
 
 -- `if let Some((prev_text, _))`, and prev_text is the word
-unfoldable pub isWord : List ℕ → List ℕ → Option Before → Bool
-isWord word source none = false
-isWord word source (some b) = same (text source (b .text .start) (b .text .end)) word
+unfoldable pub textIs : List ℕ → List ℕ → Option Before → Bool
+textIs word source none = false
+textIs word source (some b) = same (text source (b .text .start) (b .text .end)) word
 
 -- the same by `eq_ignore_ascii_case`
 unfoldable pub saysWord : List ℕ → List ℕ → Option Before → Bool
@@ -127,7 +127,7 @@ unfoldable pub «find_identifier_before_dot» : Forest → List ℕ → ℕ → 
 -- fn table_ref_or_dot(tree, source, offset)
 unfoldable pub «table_ref_or_dot» : PathNode → List ℕ → ℕ → CursorContext
 «table_ref_or_dot» n source offset =
-    cond (isWord (bytesOf ".") source («token_before_offset» (n .tree) (n .children) offset))
+    cond (textIs (bytesOf ".") source («token_before_offset» (n .tree) (n .children) offset))
     (TableReference («find_identifier_before_dot» (n .children) source offset)) (TableReference Nameless)
 
 -- `if let Some(qualifier)`
@@ -138,7 +138,7 @@ columnOf (Named r) = some (ColumnOfTable r)
 -- fn check_dot_access(tree, source, offset)
 unfoldable pub «check_dot_access» : PathNode → List ℕ → ℕ → Option CursorContext
 «check_dot_access» n source offset =
-    cond (isWord (bytesOf ".") source («token_before_offset» (n .tree) (n .children) offset))
+    cond (textIs (bytesOf ".") source («token_before_offset» (n .tree) (n .children) offset))
     (columnOf («find_identifier_before_dot» (n .children) source offset)) none
 
 -- ---- a function's argument
@@ -197,11 +197,11 @@ isStatementLike n =
     (n .tree .kind)
 
 -- its loop, with `last_clause` carried along
-unfoldable pub lastClause : Forest → ℕ → Option Rec → Option Rec
-lastClause nil offset «last_clause» = «last_clause»
-lastClause (token t rest) offset «last_clause» = lastClause rest offset «last_clause»
-lastClause (node subtree children rest) offset «last_clause» =
-    lastClause rest offset (cond (leb (subtree .start) offset) (some subtree) «last_clause»)
+unfoldable pub clauseBefore : Forest → ℕ → Option Rec → Option Rec
+clauseBefore nil offset «last_clause» = «last_clause»
+clauseBefore (token t rest) offset «last_clause» = clauseBefore rest offset «last_clause»
+clauseBefore (node subtree children rest) offset «last_clause» =
+    clauseBefore rest offset (cond (leb (subtree .start) offset) (some subtree) «last_clause»)
 
 -- its `match clause.kind`
 unfoldable pub trailing : ℕ → Option CursorContext
@@ -215,14 +215,14 @@ trailing kind =
     none)))))
 
 -- `last_clause?`, then `if offset <= clause.end`
-unfoldable pub pastClause : ℕ → Option Rec → Option CursorContext
-pastClause offset none = none
-pastClause offset (some clause) = cond (leb offset (clause .end)) none (trailing (clause .kind))
+unfoldable pub clauseGives : ℕ → Option Rec → Option CursorContext
+clauseGives offset none = none
+clauseGives offset (some clause) = cond (leb offset (clause .end)) none (trailing (clause .kind))
 
 -- the `?` of the statement
 unfoldable pub trailingOf : ℕ → Option PathNode → Option CursorContext
 trailingOf offset none = none
-trailingOf offset (some stmt) = pastClause offset (lastClause (stmt .children) offset none)
+trailingOf offset (some stmt) = clauseGives offset (clauseBefore (stmt .children) offset none)
 
 -- fn check_trailing_clause(path, offset)
 unfoldable pub «check_trailing_clause» : List PathNode → ℕ → Option CursorContext
@@ -283,7 +283,7 @@ ancestors path source offset behind next (n ∷ above) =
 -- `if let Some((prev_text, _))`, and prev_text is `;`; `else`
 unfoldable pub startsNext : List ℕ → Option Before → Bool
 startsNext source none = true
-startsNext source (some b) = isWord (bytesOf ";") source (some b)
+startsNext source (some b) = textIs (bytesOf ";") source (some b)
 
 -- the fallback, by `path.first()`
 unfoldable pub fallback : List PathNode → List ℕ → ℕ → CursorContext
@@ -305,14 +305,14 @@ unfoldable pub «cursor_context» : Rec → Forest → List ℕ → ℕ → Curs
 -- ---- the second reading says the same
 
 -- the text of the token found, as a name
-unfoldable pub nameOf : Option Before → Name
-nameOf none = Nameless
-nameOf (some b) = Named (b .text)
+unfoldable pub textName : Option Before → Name
+textName none = Nameless
+textName (some b) = Named (b .text)
 
 -- of record 0's tree and, of the functions that are handed a node of the path, of every record i
 pub record CursorContextRs (source t : List ℕ) (o : ℕ) : Type 0 where
   pub path : map (λ (n : PathNode). n .tree) («find_node_path» (recordAt t 0 0) (kids (records 0 t)) o) ≡ pathAt t o
-  pub last-token : (i : ℕ) → nameOf («token_before_offset» (recordAt t 0 i) (inside t i) o) ≡ lastTwo o (inside t i) .last
+  pub last-token : (i : ℕ) → textName («token_before_offset» (recordAt t 0 i) (inside t i) o) ≡ lastTwo o (inside t i) .last
   pub before-dot : (i : ℕ) → «find_identifier_before_dot» (inside t i) source o ≡ dotted source (lastTwo o (inside t i))
   pub function-name : (i : ℕ) → «extract_function_name» (inside t i) ≡ functionName (inside t i)
   pub argument-index : (i : ℕ) → «count_commas_before» (inside t i) o ≡ arguments o (inside t i) .index

@@ -7,15 +7,15 @@ use lib.ListN.{length, drop}
 use Rattle.table.specs.Lists.{listBytes}
 use Rattle.statement.specs.declared.statement.Enclosing.{Enclosing}
 use Rattle.statement.specs.declared.statement.Enclosing.the-variants.{Outside, Record}
-use Rattle.scope.specs.Classes.{classesOf, row as classRow}
-use Rattle.brackets.specs.Brackets.{openersLeft, stackLeft, hintOf, row as openerRow}
+use Rattle.scope.specs.Classes.{classesOf, classRow}
+use Rattle.brackets.specs.Brackets.{openersLeft, stackLeft, hintOf, openerRow}
 use Rattle.scope.specs.Scope.{withNames, tableAliases, columnAliases, tableRefs}
 use Rattle.names.specs.Bindings.{bindingRow}
 use Rattle.tables.specs.Tables.{referenceRow}
 use Rattle.statement.specs.Statement.{enclosingAt}
 use Rattle.cursor.specs.CursorContext.{contextAt}
 use Rattle.offers.specs.Root.{rootAt}
-use Rattle.desk.specs.Reply.{none as nothing, hintRecord, contextRow}
+use Rattle.desk.specs.Reply.{noRecord as nothing, hintRecord, contextRow}
 use Rattle.demands.specs.declared.Question.{Question}
 use Rattle.demands.specs.declared.Question.the-variants.{Check, TokenClasses, OpenersLeft, BracketHint, WithNames, TableAliases, ColumnAliases, TableRefs, CursorContext, EnclosingStatement, CursorRoot, WithNamesAt, TableAliasesAt, ColumnAliasesAt, TableRefsAt}
 

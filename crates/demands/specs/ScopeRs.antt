@@ -273,21 +273,21 @@ abbrev pub «find_enclosing_statement» : Rec → Forest → ℕ → Option Rec
 -- ---- the second reading says the same
 
 -- a text's range. Document 01: a lone quote mark stops the Rust; ours keeps it
-unfoldable pub rangeOf : Str → Range
-rangeOf (at r) = r
-rangeOf (stopsAt r) = r
+unfoldable pub asRange : Str → Range
+asRange (at r) = r
+asRange (stopsAt r) = r
 
 -- 4294967295 twice where there is none
 unfoldable pub rangeOr : Option Str → Range
 rangeOr none = absent
-rangeOr (some s) = rangeOf s
+rangeOr (some s) = asRange s
 
 -- the Rust's entries as document 01 has them
-unfoldable pub binding : Binding → NameBinding
-binding b = record { token = b .range; name = rangeOf (b .name); definition = b .«definition_range» }
+unfoldable pub asBinding : Binding → NameBinding
+asBinding b = record { token = b .range; name = asRange (b .name); definition = b .«definition_range» }
 
 unfoldable pub reference : Reference → TableRef
-reference r = record { «record» = r .tree .index; database = rangeOr (r .database); table = rangeOf (r .table); alias = rangeOr (r .alias) }
+reference r = record { «record» = r .tree .index; database = rangeOr (r .database); table = asRange (r .table); alias = rangeOr (r .alias) }
 
 unfoldable pub found : Option Rec → Enclosing
 found none = Outside
@@ -304,9 +304,9 @@ pub record Lone (source : List ℕ) (s : Range) : Type 0 where
 
 -- each list is the Rust's, with a lone quote mark kept where the Rust stops at it, which is nowhere else; and so is the enclosing statement
 pub record ScopeRs (source t : List ℕ) : Type 0 where
-  pub with-names : (i : ℕ) → map binding (scopeAt source t i .ctes) ≡ withNames source t i
-  pub table-aliases : (i : ℕ) → map binding (scopeAt source t i .«table_aliases») ≡ tableAliases source t i
-  pub column-aliases : (i : ℕ) → map binding (scopeAt source t i .«column_aliases») ≡ columnAliases source t i
+  pub with-names : (i : ℕ) → map asBinding (scopeAt source t i .ctes) ≡ withNames source t i
+  pub table-aliases : (i : ℕ) → map asBinding (scopeAt source t i .«table_aliases») ≡ tableAliases source t i
+  pub column-aliases : (i : ℕ) → map asBinding (scopeAt source t i .«column_aliases») ≡ columnAliases source t i
   pub table-refs : (i : ℕ) → map reference (scopeAt source t i .«table_refs») ≡ tableRefs source t i
   pub stops : (s : Range) → (unquote source s ≡ stopsAt s) ↔ Lone source s
   pub enclosing-statement : (o : ℕ) → found («find_enclosing_statement» (recordAt t 0 0) (kids (records 0 t)) o) ≡ enclosingAt t o

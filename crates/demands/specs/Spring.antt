@@ -15,22 +15,23 @@ use Rattle.table.specs.Tokens.{tokensOf, only}
 use Rattle.table.specs.Rules.{rulesFrom, misplaced, lastEnd, badSpan, verdict}
 use Rattle.table.specs.Text.{bytesOf, upper, text, says}
 use Rattle.table.specs.worked.Worked.{rec}
-use Rattle.names.specs.Names.{isAs, isPart, isName, direct, unquoted, nameOf, binding, lastOf}
-use Rattle.scope.specs.Collection.{entered, collected, collection, ownWith, ownColumns, ownTables}
-use Rattle.tables.specs.Tables.{fresh, aliased, handOn, listAlias, reading, references, aliases}
+use Rattle.names.specs.Names.{isAs, isPart, isName, direct, unquoted, nameOf, binding, lastNamed}
+use Rattle.scope.specs.Collection.{nodeGives, collected, collection, ownWith, ownColumns, ownTables}
+use Rattle.tables.specs.Tables.{fresh, aliased, handOn, listAlias, tableReading, references, aliases}
 use Rattle.scope.specs.Scope.{withNames, tableAliases, columnAliases, tableRefs}
 use Rattle.roots.specs.AllRoots.{emptied}
 use Rattle.statement.specs.Statement.{orElse, firstFind, enclosingAt}
 use Rattle.path.specs.Path.{deepestOr, onPath, nextOf}
 use Rattle.tokens.specs.LastToken.{lastOr, init, lastTwo, isText, dotted}
 use Rattle.cursor.specs.Trailing.{lastClause, pastClause, pastEnd, trailingIn}
-use Rattle.cursor.specs.PathRules.{columnOr, column, pathRules, ruled, orElse as either, byPath}
+use Rattle.cursor.specs.PathRules.{columnOr, column, pathRules, ruled, elseAsk as either, byPath}
 use Rattle.cursor.specs.CursorContext.{lastRule, givenOr, contextAt}
 use Rattle.cursor.specs.Context.{rangeOf, coded}
 use Rattle.offers.specs.Root.{statementOr, rootOf, rootAt}
 use Rattle.desk.specs.Reply.{contextRow}
 use Rattle.demands.specs.declared.Question.the-variants.{CursorContext, TableAliases, TableRefs, TableAliasesAt, TableRefsAt}
 use Rattle.demands.specs.Questions.{Asked, asked, rows, matter}
+use Rattle.table.specs.Ranges.{absentNumber}
 
 -- ---- the theorem's statement
 
@@ -98,8 +99,8 @@ table =
 abbrev that : Asked
 that = asked table source [] cursor 0 []
 
-abbrev absent : ℕ
-absent = 4294967295
+abbrev noRange : ℕ
+noRange = absentNumber
 
 -- the table is admitted, and the three names are one word
 that-morning : (verdict table (length source) 0 ≡ Admitted) × (text source 22 23 ≡ text source 46 47) × (text source 58 59 ≡ text source 46 47)
@@ -113,12 +114,12 @@ typed = refl
 
 -- before: the outer query's r, which is of labs
 before : (matter TableAliases that .said ≡ rows ((22 ∷ 23 ∷ 22 ∷ 23 ∷ 22 ∷ 23 ∷ []) ∷ []))
-    × (matter TableRefs that .said ≡ rows ((10 ∷ absent ∷ absent ∷ 17 ∷ 21 ∷ 22 ∷ 23 ∷ []) ∷ []))
-unfolding matter collection collected entered ownTables reading handOn listAlias aliased fresh lastOf binding nameOf unquoted isName isAs says text upper bytesOf isPart direct kids level from run recordAt word stretchEnd extent
+    × (matter TableRefs that .said ≡ rows ((10 ∷ noRange ∷ noRange ∷ 17 ∷ 21 ∷ 22 ∷ 23 ∷ []) ∷ []))
+unfolding matter collection collected nodeGives ownTables tableReading handOn listAlias aliased fresh lastNamed binding nameOf unquoted isName isAs says text upper bytesOf isPart direct kids level from run recordAt word stretchEnd extent
 before = (refl, refl)
 
 -- now: the inner query's r, which is of raw, and nothing else
 now : (matter TableAliasesAt that .said ≡ rows ((58 ∷ 59 ∷ 58 ∷ 59 ∷ 58 ∷ 59 ∷ []) ∷ []))
-    × (matter TableRefsAt that .said ≡ rows ((31 ∷ absent ∷ absent ∷ 54 ∷ 57 ∷ 58 ∷ 59 ∷ []) ∷ []))
-unfolding matter collection collected entered ownTables reading handOn listAlias aliased fresh lastOf binding nameOf unquoted isName isAs says text upper bytesOf isPart direct kids level from run recordAt word stretchEnd extent path pathOf orElse firstFind enclosingAt deepestOr statementOr rootOf rootAt
+    × (matter TableRefsAt that .said ≡ rows ((31 ∷ noRange ∷ noRange ∷ 54 ∷ 57 ∷ 58 ∷ 59 ∷ []) ∷ []))
+unfolding matter collection collected nodeGives ownTables tableReading handOn listAlias aliased fresh lastNamed binding nameOf unquoted isName isAs says text upper bytesOf isPart direct kids level from run recordAt word stretchEnd extent path pathOf orElse firstFind enclosingAt deepestOr statementOr rootOf rootAt
 now = (refl, refl)

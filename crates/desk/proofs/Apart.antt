@@ -21,7 +21,7 @@ use Rattle.statement.specs.declared.statement.StatementReply.{StatementReply}
 use Rattle.statement.specs.declared.statement.StatementReply.the-variants.{Statement, NoStatement, Refused as Unstated}
 use Rattle.offers.specs.declared.root.RootReply.{RootReply}
 use Rattle.offers.specs.declared.root.RootReply.the-variants.{Root, Refused as Unrooted}
-use Rattle.desk.specs.Reply.{half, none, packed, verdictReply, listReply, hintRecord, hintReply, statementNumber, rootNumber}
+use Rattle.desk.specs.Reply.{half, noRecord, packed, verdictReply, listReply, hintRecord, hintReply, statementNumber, rootNumber}
 
 -- the halves of a number come back
 pub halves : (a b c d : ℕ) → a < half → c < half → packed a b ≡ packed c d → (a ≡ c) × (b ≡ d)
@@ -42,13 +42,13 @@ Lists (Entries n) = n < half
 Lists (Denied k d) = Numbers k d
 
 unfoldable pub Hints : HintReply → Type 0
-Hints (Hinted (Opener i)) = i < none
-Hints (Hinted NoOpener) = 0 < none
+Hints (Hinted (Opener i)) = i < noRecord
+Hints (Hinted NoOpener) = 0 < noRecord
 Hints (Unhinted k d) = Numbers k d
 
 unfoldable pub Statements : StatementReply → Type 0
-Statements (Statement i) = i < none
-Statements NoStatement = 0 < none
+Statements (Statement i) = i < noRecord
+Statements NoStatement = 0 < noRecord
 Statements (Unstated k d) = Numbers k d
 
 unfoldable pub Roots : RootReply → Type 0

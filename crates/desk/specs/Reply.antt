@@ -16,10 +16,15 @@ use Rattle.cursor.specs.declared.context.CursorContext.{CursorContext}
 use Rattle.cursor.specs.Context.{coded}
 use Rattle.offers.specs.declared.root.RootReply.{RootReply}
 use Rattle.offers.specs.declared.root.RootReply.the-variants.{Root, Refused as Unrooted}
+use Rattle.table.specs.Table.{wordLimit}
+use Rattle.table.specs.Ranges.{absentNumber}
+use Rattle.table.specs.Rules.{Rule}
+use Rattle.table.specs.Lists.{listed, lent}
+use mathlib.Core.Path.{_≡_}
 
 -- how many values a half has
 abbrev pub half : ℕ
-half = 4294967296
+half = wordLimit
 
 -- the low half is a refusal's number, 0 where the question is answered; the high half its detail, or the answer
 abbrev pub packed : ℕ → ℕ → ℕ
@@ -30,8 +35,8 @@ abbrev pub answered : ℕ
 answered = 0
 
 -- the high half where the answer is that there is none
-abbrev pub none : ℕ
-none = 4294967295
+abbrev pub noRecord : ℕ
+noRecord = absentNumber
 
 -- a verdict: nothing more to say where the table is admitted
 unfoldable pub verdictReply : Verdict → ℕ
@@ -43,10 +48,14 @@ unfoldable pub listReply : Listed → ℕ
 listReply (Entries n) = packed answered n
 listReply (Denied k d) = packed k d
 
+-- a question for a list as C gets it: the reply's number, and its buffer before and afterwards
+abbrev pub AnswersC : {E : Type 0} → List Rule → (E → List ℕ) → List E → List ℕ → ℕ → List ℕ → Type 0
+AnswersC rs row es before reply after = (reply ≡ listReply (listed rs row es before)) × (after ≡ lent rs row es before)
+
 -- the record that a hint names, or none
 unfoldable pub hintRecord : Hint → ℕ
 hintRecord (Opener i) = i
-hintRecord NoOpener = none
+hintRecord NoOpener = noRecord
 
 -- a hint
 unfoldable pub hintReply : HintReply → ℕ
@@ -58,7 +67,7 @@ hintReply (Unhinted k d) = packed k d
 -- an enclosing statement, or none
 unfoldable pub statementNumber : StatementReply → ℕ
 statementNumber (Statement n) = packed answered n
-statementNumber NoStatement = packed answered none
+statementNumber NoStatement = packed answered noRecord
 statementNumber (Unstated k d) = packed k d
 
 -- the cursor's root

@@ -14,32 +14,35 @@ use scope::semantic_tokens::token_classes;
 use table::check::Verdict;
 use table::check::check;
 use table::list::Listed;
+use table::range::ABSENT;
+use table::record::WORD_LIMIT;
 ghost use mathlib.Core.Path.{_≡_};
 ghost use lib.ListN.{length};
 ghost use Rattle.table.specs.Rules.{rules, rootRules, verdict};
-ghost use Rattle.table.specs.Lists.{listed, lent};
-ghost use Rattle.scope.specs.Classes.{row as classRow, classesOf};
-ghost use Rattle.brackets.specs.Brackets.{row as openerRow, stackLeft, openersLeft, hintOf, hinted};
+ghost use Rattle.scope.specs.Classes.{classRow as classRow, classesOf};
+ghost use Rattle.brackets.specs.Brackets.{openerRow as openerRow, stackLeft, openersLeft, hintOf, hinted};
 ghost use Rattle.names.specs.Bindings.{bindingRow};
 ghost use Rattle.tables.specs.Tables.{referenceRow};
 ghost use Rattle.scope.specs.Scope.{withNames, tableAliases, columnAliases, tableRefs};
-ghost use Rattle.desk.specs.Reply.{packed, verdictReply, listReply, hintRecord, hintReply};
+ghost use Rattle.desk.specs.Reply.{packed, verdictReply, listReply, hintRecord, hintReply, AnswersC};
 
 // How many values a half of a reply has.
-const HALF: u64 = 4294967296;
+const HALF: u64 = WORD_LIMIT as u64;
 
 // The low half of an answer.
 pub const ANSWERED: u32 = 0;
 
 // The high half where the answer is that there is none.
-pub const NONE: u32 = 4294967295;
+pub const NONE: u32 = ABSENT as u32;
 
+// Two halves as one number.
 pub fn packed(low: u32, high: u32) -> u64
     ensures { λ r. ⌜ r ≡ packed low high ⌝ }
 {
     low as u64 + HALF * (high as u64)
 }
 
+// The number of a verdict.
 fn verdict_reply(v: Verdict) -> u64
     ensures { λ r. ⌜ r ≡ verdictReply v ⌝ }
 {
@@ -49,6 +52,7 @@ fn verdict_reply(v: Verdict) -> u64
     }
 }
 
+// The number of a reply to a question for a list.
 pub fn list_reply(l: Listed) -> u64
     ensures { λ r. ⌜ r ≡ listReply l ⌝ }
 {
@@ -58,6 +62,7 @@ pub fn list_reply(l: Listed) -> u64
     }
 }
 
+// The record of a hint, or none.
 fn hint_record(h: Hint) -> u32
     ensures { λ r. ⌜ r ≡ hintRecord h ⌝ }
 {
@@ -67,6 +72,7 @@ fn hint_record(h: Hint) -> u32
     }
 }
 
+// The number of a reply to the question for the hint.
 fn hint_reply(h: HintReply) -> u64
     ensures { λ r. ⌜ r ≡ hintReply h ⌝ }
 {
@@ -87,8 +93,8 @@ pub extern "C" fn desk_check(table: &[u8], source: &[u8]) -> u64
 // The classed tokens. High half of an answer: the entries written.
 #[no_mangle]
 pub extern "C" fn desk_token_classes(table: &[u8], source: &[u8], out: &mut [u8]) -> u64
-    ensures { λ r. ⌜ (r ≡ listReply (listed (rules (now (table .entry)) (length (now (source .entry))) 0) classRow (classesOf (now (source .entry)) (now (table .entry))) (now (out .entry))))
-        × (now (out .exit) ≡ lent (rules (now (table .entry)) (length (now (source .entry))) 0) classRow (classesOf (now (source .entry)) (now (table .entry))) (now (out .entry))) ⌝ }
+    ensures { λ r. ⌜ AnswersC (rules (now (table .entry)) (length (now (source .entry))) 0) classRow
+        (classesOf (now (source .entry)) (now (table .entry))) (now (out .entry)) r (now (out .exit)) ⌝ }
 {
     list_reply(token_classes(table, source, out))
 }
@@ -96,8 +102,8 @@ pub extern "C" fn desk_token_classes(table: &[u8], source: &[u8], out: &mut [u8]
 // The openers left. High half of an answer: the entries written.
 #[no_mangle]
 pub extern "C" fn desk_openers_left(table: &[u8], source: &[u8], out: &mut [u8]) -> u64
-    ensures { λ r. ⌜ (r ≡ listReply (listed (rules (now (table .entry)) (length (now (source .entry))) 0) openerRow (openersLeft (now (table .entry))) (now (out .entry))))
-        × (now (out .exit) ≡ lent (rules (now (table .entry)) (length (now (source .entry))) 0) openerRow (openersLeft (now (table .entry))) (now (out .entry))) ⌝ }
+    ensures { λ r. ⌜ AnswersC (rules (now (table .entry)) (length (now (source .entry))) 0) openerRow
+        (openersLeft (now (table .entry))) (now (out .entry)) r (now (out .exit)) ⌝ }
 {
     list_reply(openers_left(table, source, out))
 }
@@ -105,7 +111,8 @@ pub extern "C" fn desk_openers_left(table: &[u8], source: &[u8], out: &mut [u8])
 // The opener that a message speaks of. High half of an answer: its record, or 4294967295 for none.
 #[no_mangle]
 pub extern "C" fn desk_bracket_hint(table: &[u8], source: &[u8], message: &[u8]) -> u64
-    ensures { λ r. ⌜ r ≡ hintReply (hinted (verdict (now (table .entry)) (length (now (source .entry))) (length (now (message .entry)))) (hintOf (now (message .entry)) (stackLeft (now (table .entry))))) ⌝ }
+    ensures { λ r. ⌜ r ≡ hintReply (hinted (verdict (now (table .entry)) (length (now (source .entry))) (length (now (message .entry))))
+        (hintOf (now (message .entry)) (stackLeft (now (table .entry))))) ⌝ }
 {
     hint_reply(bracket_hint(table, source, message))
 }
@@ -113,8 +120,8 @@ pub extern "C" fn desk_bracket_hint(table: &[u8], source: &[u8], message: &[u8])
 // The WITH names of a root. High half of an answer: the entries written.
 #[no_mangle]
 pub extern "C" fn desk_with_names(table: &[u8], source: &[u8], root: u32, out: &mut [u8]) -> u64
-    ensures { λ r. ⌜ (r ≡ listReply (listed (rootRules (now (table .entry)) (length (now (source .entry))) root) bindingRow (withNames (now (source .entry)) (now (table .entry)) root) (now (out .entry))))
-        × (now (out .exit) ≡ lent (rootRules (now (table .entry)) (length (now (source .entry))) root) bindingRow (withNames (now (source .entry)) (now (table .entry)) root) (now (out .entry))) ⌝ }
+    ensures { λ r. ⌜ AnswersC (rootRules (now (table .entry)) (length (now (source .entry))) root) bindingRow
+        (withNames (now (source .entry)) (now (table .entry)) root) (now (out .entry)) r (now (out .exit)) ⌝ }
 {
     list_reply(with_names(table, source, root as usize, out))
 }
@@ -122,8 +129,8 @@ pub extern "C" fn desk_with_names(table: &[u8], source: &[u8], root: u32, out: &
 // The table aliases of a root. High half of an answer: the entries written.
 #[no_mangle]
 pub extern "C" fn desk_table_aliases(table: &[u8], source: &[u8], root: u32, out: &mut [u8]) -> u64
-    ensures { λ r. ⌜ (r ≡ listReply (listed (rootRules (now (table .entry)) (length (now (source .entry))) root) bindingRow (tableAliases (now (source .entry)) (now (table .entry)) root) (now (out .entry))))
-        × (now (out .exit) ≡ lent (rootRules (now (table .entry)) (length (now (source .entry))) root) bindingRow (tableAliases (now (source .entry)) (now (table .entry)) root) (now (out .entry))) ⌝ }
+    ensures { λ r. ⌜ AnswersC (rootRules (now (table .entry)) (length (now (source .entry))) root) bindingRow
+        (tableAliases (now (source .entry)) (now (table .entry)) root) (now (out .entry)) r (now (out .exit)) ⌝ }
 {
     list_reply(table_aliases(table, source, root as usize, out))
 }
@@ -131,8 +138,8 @@ pub extern "C" fn desk_table_aliases(table: &[u8], source: &[u8], root: u32, out
 // The column aliases of a root. High half of an answer: the entries written.
 #[no_mangle]
 pub extern "C" fn desk_column_aliases(table: &[u8], source: &[u8], root: u32, out: &mut [u8]) -> u64
-    ensures { λ r. ⌜ (r ≡ listReply (listed (rootRules (now (table .entry)) (length (now (source .entry))) root) bindingRow (columnAliases (now (source .entry)) (now (table .entry)) root) (now (out .entry))))
-        × (now (out .exit) ≡ lent (rootRules (now (table .entry)) (length (now (source .entry))) root) bindingRow (columnAliases (now (source .entry)) (now (table .entry)) root) (now (out .entry))) ⌝ }
+    ensures { λ r. ⌜ AnswersC (rootRules (now (table .entry)) (length (now (source .entry))) root) bindingRow
+        (columnAliases (now (source .entry)) (now (table .entry)) root) (now (out .entry)) r (now (out .exit)) ⌝ }
 {
     list_reply(column_aliases(table, source, root as usize, out))
 }
@@ -140,8 +147,8 @@ pub extern "C" fn desk_column_aliases(table: &[u8], source: &[u8], root: u32, ou
 // The table references of a root. High half of an answer: the entries written.
 #[no_mangle]
 pub extern "C" fn desk_table_refs(table: &[u8], source: &[u8], root: u32, out: &mut [u8]) -> u64
-    ensures { λ r. ⌜ (r ≡ listReply (listed (rootRules (now (table .entry)) (length (now (source .entry))) root) referenceRow (tableRefs (now (source .entry)) (now (table .entry)) root) (now (out .entry))))
-        × (now (out .exit) ≡ lent (rootRules (now (table .entry)) (length (now (source .entry))) root) referenceRow (tableRefs (now (source .entry)) (now (table .entry)) root) (now (out .entry))) ⌝ }
+    ensures { λ r. ⌜ AnswersC (rootRules (now (table .entry)) (length (now (source .entry))) root) referenceRow
+        (tableRefs (now (source .entry)) (now (table .entry)) root) (now (out .entry)) r (now (out .exit)) ⌝ }
 {
     list_reply(table_refs(table, source, root as usize, out))
 }

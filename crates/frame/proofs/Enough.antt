@@ -22,7 +22,7 @@ use Rattle.table.proofs.Texts.{both}
 use Rattle.lines.specs.Lines.{Line, line, lf, lines, allDigits, isHex, isSource, isNumbers, offsetDigits, recordDigits, lastLine, faulty, recordRules, frameRules}
 use Rattle.report.specs.Output.{refusalLine, unlessRefused, replied}
 use Rattle.frame.specs.Glance.{repliedTo, glanced}
-use Rattle.lines.specs.inner.Reading.{span, lineTo}
+use Rattle.lines.specs.inner.Reading.{lineSpan, lineTo}
 use Rattle.frame.specs.Enough.{inputRoom, Enough}
 use Rattle.report.proofs.Answers.{never-both}
 use Rattle.lines.proofs.Reading.{first-line, first-faulty, lines-behind, lines-some, drop-two, source-unended, numbers-unended, source-short, numbers-long}
@@ -35,32 +35,32 @@ untrue p q = let z : _≡_ {A = ℕ} 0 1 = cc in omega arith
 
 -- ---- the first line of a text's beginning
 
-span-most : (bs : List ℕ) → span bs ≤ length bs
-unfolding span
+span-most : (bs : List ℕ) → lineSpan bs ≤ length bs
+unfolding lineSpan
 span-most [] = omega arith
 span-most (b ∷ bs) = go (eqb b lf) refl (span-most bs)
   where
-    go : (t : Bool) → eqb b lf ≡ t → span bs ≤ length bs → span (b ∷ bs) ≤ length (b ∷ bs)
+    go : (t : Bool) → eqb b lf ≡ t → lineSpan bs ≤ length bs → lineSpan (b ∷ bs) ≤ length (b ∷ bs)
     go true e r = rw e (omega arith)
     go false e r = rw e (omega arith)
 
-span-within : (k : ℕ) (bs : List ℕ) → span bs < k → span (take k bs) ≡ span bs
-unfolding span
+span-within : (k : ℕ) (bs : List ℕ) → lineSpan bs < k → lineSpan (take k bs) ≡ lineSpan bs
+unfolding lineSpan
 span-within zero bs h = absurd (omega arith)
 span-within (suc k) [] h = refl
 span-within (suc k) (b ∷ bs) h = go (eqb b lf) refl (span-within k bs)
   where
-    go : (t : Bool) → eqb b lf ≡ t → (span bs < k → span (take k bs) ≡ span bs) → span (b ∷ take k bs) ≡ span (b ∷ bs)
+    go : (t : Bool) → eqb b lf ≡ t → (lineSpan bs < k → lineSpan (take k bs) ≡ lineSpan bs) → lineSpan (b ∷ take k bs) ≡ lineSpan (b ∷ bs)
     go true e r = rw e
     go false e r = rw (e, r (omega (arith, rw e at h)))
 
-span-past : (k : ℕ) (bs : List ℕ) → k ≤ span bs → span (take k bs) ≡ k
-unfolding span
+span-past : (k : ℕ) (bs : List ℕ) → k ≤ lineSpan bs → lineSpan (take k bs) ≡ k
+unfolding lineSpan
 span-past zero bs h = refl
 span-past (suc k) [] h = absurd (omega arith)
 span-past (suc k) (b ∷ bs) h = go (eqb b lf) refl (span-past k bs)
   where
-    go : (t : Bool) → eqb b lf ≡ t → (k ≤ span bs → span (take k bs) ≡ k) → span (b ∷ take k bs) ≡ suc k
+    go : (t : Bool) → eqb b lf ≡ t → (k ≤ lineSpan bs → lineSpan (take k bs) ≡ k) → lineSpan (b ∷ take k bs) ≡ suc k
     go true e r = absurd (omega (arith, rw e at h))
     go false e r = rw (e, r (omega (arith, rw e at h)))
 
@@ -78,8 +78,8 @@ ended-same s k bs h =
     (λ (q : length bs ≤ k). rw (take-all k bs q))
     (lt-or-le k (length bs))
 
-line-within : (k : ℕ) (bs : List ℕ) → span bs < k → lineTo (take k bs) (span (take k bs)) ≡ lineTo bs (span bs)
-line-within k bs h = rw (span-within k bs h, take-take (span bs) k bs (omega arith), ended-same (span bs) k bs h)
+line-within : (k : ℕ) (bs : List ℕ) → lineSpan bs < k → lineTo (take k bs) (lineSpan (take k bs)) ≡ lineTo bs (lineSpan bs)
+line-within k bs h = rw (span-within k bs h, take-take (lineSpan bs) k bs (omega arith), ended-same (lineSpan bs) k bs h)
 
 -- a form that a line without its LF does not have, nor one of more than `most` bytes
 module _ (form : Line → Bool) (most : ℕ) (short : (l : Line) → form l ≡ true → length (l .bytes) ≤ most) (ends : (l : Line) → form l ≡ true → l .ended ≡ true) where
@@ -97,23 +97,23 @@ module _ (form : Line → Bool) (most : ℕ) (short : (l : Line) → form l ≡ 
       go true e = absurd (untrue (ends l e) h)
       go false e = e
 
-  form-same : (k : ℕ) (bs : List ℕ) → most < k → form (lineTo (take k bs) (span (take k bs))) ≡ form (lineTo bs (span bs))
+  form-same : (k : ℕ) (bs : List ℕ) → most < k → form (lineTo (take k bs) (lineSpan (take k bs))) ≡ form (lineTo bs (lineSpan bs))
   form-same k bs h =
       ⊎-elim
-      (λ (q : span bs < k). ap form (line-within k bs q))
-      (λ (q : k ≤ span bs).
+      (λ (q : lineSpan bs < k). ap form (line-within k bs q))
+      (λ (q : k ≤ lineSpan bs).
       let l : length (take k bs) ≡ k = length-take-le k bs (omega (arith, span-most bs)) in
-      open-not (lineTo (take k bs) (span (take k bs))) (le-ltb (span (take k bs)) (length (take k bs)) (omega (arith, span-past k bs q)))
-      ∙ sym (long-not (lineTo bs (span bs)) (omega (arith, length-take-le (span bs) bs (span-most bs)))))
-      (lt-or-le (span bs) k)
+      open-not (lineTo (take k bs) (lineSpan (take k bs))) (le-ltb (lineSpan (take k bs)) (length (take k bs)) (omega (arith, span-past k bs q)))
+      ∙ sym (long-not (lineTo bs (lineSpan bs)) (omega (arith, length-take-le (lineSpan bs) bs (span-most bs)))))
+      (lt-or-le (lineSpan bs) k)
 
-  form-span : (bs : List ℕ) → form (lineTo bs (span bs)) ≡ true → span bs ≤ most
-  form-span bs e = omega (arith, short (lineTo bs (span bs)) e, length-take-le (span bs) bs (span-most bs))
+  form-span : (bs : List ℕ) → form (lineTo bs (lineSpan bs)) ≡ true → lineSpan bs ≤ most
+  form-span bs e = omega (arith, short (lineTo bs (lineSpan bs)) e, length-take-le (lineSpan bs) bs (span-most bs))
 
   -- what is behind such a line, of a text's beginning
-  rest-same : (k : ℕ) (bs : List ℕ) → most < k → form (lineTo bs (span bs)) ≡ true
-      → lines (drop (span (take k bs) + 1) (take k bs)) ≡ lines (take (k - (span bs + 1)) (drop (span bs + 1) bs))
-  rest-same k bs h e = rw (span-within k bs (omega (arith, form-span bs e)), drop-take (span bs + 1) k bs)
+  rest-same : (k : ℕ) (bs : List ℕ) → most < k → form (lineTo bs (lineSpan bs)) ≡ true
+      → lines (drop (lineSpan (take k bs) + 1) (take k bs)) ≡ lines (take (k - (lineSpan bs + 1)) (drop (lineSpan bs + 1) bs))
+  rest-same k bs h e = rw (span-within k bs (omega (arith, form-span bs e)), drop-take (lineSpan bs + 1) k bs)
 
 hex-ended : (l : Line) → isHex l ≡ true → l .ended ≡ true
 unfolding isHex
@@ -134,11 +134,11 @@ numbers-short n l e = omega (arith, numbers-long n l e)
 -- ---- the records' lines
 
 abbrev good : List ℕ → Bool
-good bs = isNumbers recordDigits (lineTo bs (span bs))
+good bs = isNumbers recordDigits (lineTo bs (lineSpan bs))
 
 -- the first rule of a text's records, and then the others
 records-turn : (i : ℕ) (bs : List ℕ) → 0 < length bs
-    → first (recordRules i (lines bs)) ≡ cond (ltb lastLine i || not (good bs)) (Refused 9 i) (first (recordRules (suc i) (lines (drop (span bs + 1) bs))))
+    → first (recordRules i (lines bs)) ≡ cond (ltb lastLine i || not (good bs)) (Refused 9 i) (first (recordRules (suc i) (lines (drop (lineSpan bs + 1) bs))))
 records-turn i bs h = rw (first-line bs h) (unfold recordRules in refl)
 
 too-many : (i : ℕ) (bs : List ℕ) → 0 < length bs → lastLine < i → first (recordRules i (lines bs)) ≡ Refused 9 i
@@ -156,7 +156,7 @@ module _ (i : ℕ) where
 
   -- one line, and then the others
   records-step : (k : ℕ) (bs : List ℕ) → recordDigits < k
-      → (span bs ≤ 20 → first (recordRules (suc i) (lines (take (k - (span bs + 1)) (drop (span bs + 1) bs)))) ≡ first (recordRules (suc i) (lines (drop (span bs + 1) bs))))
+      → (lineSpan bs ≤ 20 → first (recordRules (suc i) (lines (take (k - (lineSpan bs + 1)) (drop (lineSpan bs + 1) bs)))) ≡ first (recordRules (suc i) (lines (drop (lineSpan bs + 1) bs))))
       → Same k bs
   records-step k [] h r = rw (take-nil {A = ℕ} k)
   records-step zero (b ∷ bs) h r = absurd (omega arith)
@@ -179,25 +179,25 @@ module _ (i : ℕ) where
 records-same : (m i k : ℕ) (bs : List ℕ) → i + m ≡ 1027 → 21 * m < k → Same i k bs
 records-same zero i k bs e h = records-last i k bs (omega arith) (omega arith)
 records-same (suc m) i k bs e h =
-    records-step i k bs (omega arith) (λ q. records-same m (suc i) (k - (span bs + 1)) (drop (span bs + 1) bs) (omega arith) (omega arith))
+    records-step i k bs (omega arith) (λ q. records-same m (suc i) (k - (lineSpan bs + 1)) (drop (lineSpan bs + 1) bs) (omega arith) (omega arith))
 
 -- lines of records that break no rule are short
 few-step : (i : ℕ) (bs : List ℕ) → 0 < length bs → Admitted ≡ first (recordRules i (lines bs))
-    → (i ≤ lastLine) × (length bs ≡ 21 + length (drop (span bs + 1) bs)) × (Admitted ≡ first (recordRules (suc i) (lines (drop (span bs + 1) bs))))
+    → (i ≤ lastLine) × (length bs ≡ 21 + length (drop (lineSpan bs + 1) bs)) × (Admitted ≡ first (recordRules (suc i) (lines (drop (lineSpan bs + 1) bs))))
 few-step i bs h a = go (ltb lastLine i) refl (good bs) refl
   where
-    turned : Admitted ≡ cond (ltb lastLine i || not (good bs)) (Refused 9 i) (first (recordRules (suc i) (lines (drop (span bs + 1) bs))))
+    turned : Admitted ≡ cond (ltb lastLine i || not (good bs)) (Refused 9 i) (first (recordRules (suc i) (lines (drop (lineSpan bs + 1) bs))))
     turned = a ∙ records-turn i bs h
 
     go : (t : Bool) → ltb lastLine i ≡ t → (g : Bool) → good bs ≡ g
-        → (i ≤ lastLine) × (length bs ≡ 21 + length (drop (span bs + 1) bs)) × (Admitted ≡ first (recordRules (suc i) (lines (drop (span bs + 1) bs))))
+        → (i ≤ lastLine) × (length bs ≡ 21 + length (drop (lineSpan bs + 1) bs)) × (Admitted ≡ first (recordRules (suc i) (lines (drop (lineSpan bs + 1) bs))))
     go true e g q = absurd (clash (rw e at turned))
     go false e false q = absurd (clash (rw (e, q) at turned))
     go false e true q =
-        let n : length (take (span bs) bs) ≡ 20 = numbers-long recordDigits (lineTo bs (span bs)) q in
-        let l : length (take (span bs) bs) ≡ span bs = length-take-le (span bs) bs (span-most bs) in
-        let w : span bs < length bs = ltb-true (span bs) (length bs) (numbers-ended recordDigits (lineTo bs (span bs)) q) in
-        (ltb-false lastLine i e, omega (arith, length-drop (span bs + 1) bs), rw (e, q) at turned)
+        let n : length (take (lineSpan bs) bs) ≡ 20 = numbers-long recordDigits (lineTo bs (lineSpan bs)) q in
+        let l : length (take (lineSpan bs) bs) ≡ lineSpan bs = length-take-le (lineSpan bs) bs (span-most bs) in
+        let w : lineSpan bs < length bs = ltb-true (lineSpan bs) (length bs) (numbers-ended recordDigits (lineTo bs (lineSpan bs)) q) in
+        (ltb-false lastLine i e, omega (arith, length-drop (lineSpan bs + 1) bs), rw (e, q) at turned)
 
 records-few : (m i : ℕ) (bs : List ℕ) → i + m ≡ 1027 → Admitted ≡ first (recordRules i (lines bs)) → length bs ≤ 21 * m
 records-few zero i bs e a =
@@ -209,7 +209,7 @@ records-few (suc m) i bs e a =
     ⊎-elim
     (λ (h : 0 < length bs).
     let w = few-step i bs h a in
-    omega (arith, w .1, records-few m (suc i) (drop (span bs + 1) bs) (omega arith) (w .2)))
+    omega (arith, w .1, records-few m (suc i) (drop (lineSpan bs + 1) bs) (omega arith) (w .2)))
     (λ (h : length bs ≤ 0). omega arith)
     (lt-or-le 0 (length bs))
 
@@ -219,14 +219,14 @@ abbrev afterOffset : List ℕ → Verdict
 afterOffset bs = cond (eqb (length (lines bs)) 0) (Refused 9 3) (first (recordRules 3 (lines bs)))
 
 abbrev afterSource : List ℕ → Verdict
-afterSource bs = cond (not (isNumbers offsetDigits (lineTo bs (span bs)))) (Refused 9 2) (afterOffset (drop (span bs + 1) bs))
+afterSource bs = cond (not (isNumbers offsetDigits (lineTo bs (lineSpan bs)))) (Refused 9 2) (afterOffset (drop (lineSpan bs + 1) bs))
 
 abbrev whole : List ℕ → Verdict
-whole bs = cond (not (isSource (lineTo bs (span bs)))) (Refused 9 1) (afterSource (drop (span bs + 1) bs))
+whole bs = cond (not (isSource (lineTo bs (lineSpan bs)))) (Refused 9 1) (afterSource (drop (lineSpan bs + 1) bs))
 
 framed : (bs : List ℕ) → first (frameRules (lines bs)) ≡ whole bs
 framed bs =
-    rw (first-faulty isSource source-unended bs, drop-two (lines bs), lines-behind bs, first-faulty (isNumbers offsetDigits) (numbers-unended offsetDigits) (drop (span bs + 1) bs), lines-behind (drop (span bs + 1) bs))
+    rw (first-faulty isSource source-unended bs, drop-two (lines bs), lines-behind bs, first-faulty (isNumbers offsetDigits) (numbers-unended offsetDigits) (drop (lineSpan bs + 1) bs), lines-behind (drop (lineSpan bs + 1) bs))
 
 after-offset-same : (k : ℕ) (bs : List ℕ) → 21504 < k → afterOffset (take k bs) ≡ afterOffset bs
 after-offset-same k [] h = rw (take-nil {A = ℕ} k)
@@ -242,25 +242,25 @@ after-offset-same (suc k) (b ∷ bs) h =
 module _ (form : Line → Bool) (most : ℕ) (short : (l : Line) → form l ≡ true → length (l .bytes) ≤ most) (ends : (l : Line) → form l ≡ true → l .ended ≡ true)
     (refusal : Verdict) (then : List ℕ → Verdict) where
   abbrev turn : List ℕ → Verdict
-  turn bs = cond (not (form (lineTo bs (span bs)))) refusal (then (drop (span bs + 1) bs))
+  turn bs = cond (not (form (lineTo bs (lineSpan bs)))) refusal (then (drop (lineSpan bs + 1) bs))
 
   turn-same : (k : ℕ) (bs : List ℕ) → most < k → ((k′ : ℕ) (bs′ : List ℕ) → k ≤ most + 1 + k′ → then (take k′ bs′) ≡ then bs′) → turn (take k bs) ≡ turn bs
-  turn-same k bs h r = go (form (lineTo bs (span bs))) refl
+  turn-same k bs h r = go (form (lineTo bs (lineSpan bs))) refl
     where
-      same : form (lineTo (take k bs) (span (take k bs))) ≡ form (lineTo bs (span bs))
+      same : form (lineTo (take k bs) (lineSpan (take k bs))) ≡ form (lineTo bs (lineSpan bs))
       same = form-same form most short ends k bs h
 
-      go : (t : Bool) → form (lineTo bs (span bs)) ≡ t → turn (take k bs) ≡ turn bs
+      go : (t : Bool) → form (lineTo bs (lineSpan bs)) ≡ t → turn (take k bs) ≡ turn bs
       go true q =
-          let s : span bs ≤ most = form-span form most short ends bs q in
-          rw (same, q, span-within k bs (omega arith), drop-take (span bs + 1) k bs) (r (k - (span bs + 1)) (drop (span bs + 1) bs) (omega arith))
+          let s : lineSpan bs ≤ most = form-span form most short ends bs q in
+          rw (same, q, span-within k bs (omega arith), drop-take (lineSpan bs + 1) k bs) (r (k - (lineSpan bs + 1)) (drop (lineSpan bs + 1) bs) (omega arith))
       go false q = rw (same, q)
 
   turn-few : (n : ℕ) (bs : List ℕ) → (Admitted ≡ refusal → ⊥) → ((bs′ : List ℕ) → Admitted ≡ then bs′ → length bs′ ≤ n) → Admitted ≡ turn bs → length bs ≤ most + 1 + n
-  turn-few n bs never r a = go (form (lineTo bs (span bs))) refl
+  turn-few n bs never r a = go (form (lineTo bs (lineSpan bs))) refl
     where
-      go : (t : Bool) → form (lineTo bs (span bs)) ≡ t → length bs ≤ most + 1 + n
-      go true q = omega (arith, form-span form most short ends bs q, length-drop (span bs + 1) bs, r (drop (span bs + 1) bs) (rw q at a))
+      go : (t : Bool) → form (lineTo bs (lineSpan bs)) ≡ t → length bs ≤ most + 1 + n
+      go true q = omega (arith, form-span form most short ends bs q, length-drop (lineSpan bs + 1) bs, r (drop (lineSpan bs + 1) bs) (rw q at a))
       go false q = absurd (never (rw q at a))
 
 after-source-same : (k : ℕ) (bs : List ℕ) → 21513 < k → afterSource (take k bs) ≡ afterSource bs

@@ -1,4 +1,5 @@
 // glance's whole work, from input bytes to output bytes: what the program prints is proved here.
+use lines::input::BAD_LINE;
 use lines::input::Frame;
 use lines::input::MOST_BYTES;
 use lines::input::read_frame;
@@ -29,7 +30,7 @@ pub fn glance(input: &[u8], out: &mut [u8; TEXT_ROOM]) -> usize
     let mut source = [0u8; MOST_BYTES];
     let mut table = [0u8; TABLE_ROOM];
     match read_frame(input, &mut source, &mut table) {
-        Frame::Unreadable(line) => put_refusal(out, 9, line),
+        Frame::Unreadable(line) => put_refusal(out, BAD_LINE, line),
         Frame::Given(bytes, offset, records) => {
             let end = RECORD_BYTES * records;
             put_reply(out, &table[..end], &source[..bytes], offset)

@@ -26,8 +26,8 @@ use Rattle.table.proofs.Texts.{both}
 use Rattle.table.proofs.Writes.{fill-sets, length-wide}
 use Rattle.table.specs.Text.{text}
 use Rattle.lines.specs.Lines.{Line, line, lf, begun, lines, isDigit, value, allDigits, isHex, isSource, isNumbers, offsetDigits, recordDigits, lastLine, mostBytes, mostLines, faulty, recordRules, frameRules}
-use Rattle.lines.specs.Frame.{spelt, number, pairs, firstBytes, sourceOf, offsetOf, fieldsOf, recordRow, tableOf}
-use Rattle.lines.specs.inner.Reading.{span, lineTo, tableRoom, ReadRecords}
+use Rattle.lines.specs.Frame.{spelt, hexNumber, pairs, firstBytes, sourceOf, offsetOf, fieldsOf, recordRow, tableOf}
+use Rattle.lines.specs.inner.Reading.{lineSpan, lineTo, tableRoom, ReadRecords}
 use Rattle.lines.specs.declared.input.Records.{Records}
 use Rattle.lines.specs.declared.input.Records.the-variants.{Faulty, Read}
 
@@ -102,17 +102,17 @@ module _ (bs : List ℕ) (i : ℕ) (so : allDigits bs ≡ allDigits (drop i bs))
 
 -- ---- the end of a line
 
-module _ (bs : List ℕ) (i : ℕ) (so : span bs ≡ i + span (drop i bs)) where
-  pub span-next : i < length bs → (getD bs i 0 ≡ lf → ⊥) → span bs ≡ i + 1 + span (drop (i + 1) bs)
-  unfolding span
+module _ (bs : List ℕ) (i : ℕ) (so : lineSpan bs ≡ i + lineSpan (drop i bs)) where
+  pub span-next : i < length bs → (getD bs i 0 ≡ lf → ⊥) → lineSpan bs ≡ i + 1 + lineSpan (drop (i + 1) bs)
+  unfolding lineSpan
   span-next h q = so ∙ rw (cut bs i h, ne-eqb _ _ q) (omega arith)
 
-  pub span-found : i < length bs → getD bs i 0 ≡ lf → i ≡ span bs
-  unfolding span
+  pub span-found : i < length bs → getD bs i 0 ≡ lf → i ≡ lineSpan bs
+  unfolding lineSpan
   span-found h q = sym (so ∙ rw (cut bs i h, eq-eqb _ _ q) (omega arith))
 
-  pub span-end : length bs ≤ i → i ≡ span bs
-  unfolding span
+  pub span-end : length bs ≤ i → i ≡ lineSpan bs
+  unfolding lineSpan
   span-end h = sym (so ∙ rw (drop-of-length-le bs h) (omega arith))
 
 -- ---- the lines of a text
@@ -124,48 +124,48 @@ less-suc a b = go (ltb a b) refl
     go true e = lt-ltb (suc a) (suc b) (omega (arith, ltb-true a b e))
     go false e = le-ltb (suc a) (suc b) (omega (arith, ltb-false a b e))
 
-begun-line : (bs : List ℕ) → 0 < length bs → lines bs ≡ lineTo bs (span bs) ∷ lines (drop (suc (span bs)) bs)
-unfolding lines span begun
+begun-line : (bs : List ℕ) → 0 < length bs → lines bs ≡ lineTo bs (lineSpan bs) ∷ lines (drop (suc (lineSpan bs)) bs)
+unfolding lines lineSpan begun
 begun-line [] h = absurd (omega arith)
 begun-line (b ∷ []) h = go (eqb b lf) refl
   where
-    go : (t : Bool) → eqb b lf ≡ t → lines (b ∷ []) ≡ lineTo (b ∷ []) (span (b ∷ [])) ∷ lines (drop (suc (span (b ∷ []))) (b ∷ []))
+    go : (t : Bool) → eqb b lf ≡ t → lines (b ∷ []) ≡ lineTo (b ∷ []) (lineSpan (b ∷ [])) ∷ lines (drop (suc (lineSpan (b ∷ []))) (b ∷ []))
     go true e = rw e
     go false e = rw e
 begun-line (b ∷ x ∷ xs) h = go (eqb b lf) refl (x ∷ xs) (begun-line (x ∷ xs) (omega arith))
   where
-    go : (t : Bool) → eqb b lf ≡ t → (more : List ℕ) → lines more ≡ lineTo more (span more) ∷ lines (drop (suc (span more)) more)
-        → lines (b ∷ more) ≡ lineTo (b ∷ more) (span (b ∷ more)) ∷ lines (drop (suc (span (b ∷ more))) (b ∷ more))
+    go : (t : Bool) → eqb b lf ≡ t → (more : List ℕ) → lines more ≡ lineTo more (lineSpan more) ∷ lines (drop (suc (lineSpan more)) more)
+        → lines (b ∷ more) ≡ lineTo (b ∷ more) (lineSpan (b ∷ more)) ∷ lines (drop (suc (lineSpan (b ∷ more))) (b ∷ more))
     go true e more q = rw (e, lt-ltb 0 (length (b ∷ more)) (omega arith))
-    go false e more q = rw (e, q, less-suc (span more) (length more))
+    go false e more q = rw (e, q, less-suc (lineSpan more) (length more))
 
-pub first-line : (bs : List ℕ) → 0 < length bs → lines bs ≡ lineTo bs (span bs) ∷ lines (drop (span bs + 1) bs)
-first-line bs h = rw (add-one (span bs)) (begun-line bs h)
+pub first-line : (bs : List ℕ) → 0 < length bs → lines bs ≡ lineTo bs (lineSpan bs) ∷ lines (drop (lineSpan bs + 1) bs)
+first-line bs h = rw (add-one (lineSpan bs)) (begun-line bs h)
 
 -- the first line as a form sees it that refuses a line without its LF
-pub first-faulty : (form : Line → Bool) → form (line [] false) ≡ false → (bs : List ℕ) → faulty form (lines bs) ≡ not (form (lineTo bs (span bs)))
-unfolding lines faulty span
+pub first-faulty : (form : Line → Bool) → form (line [] false) ≡ false → (bs : List ℕ) → faulty form (lines bs) ≡ not (form (lineTo bs (lineSpan bs)))
+unfolding lines faulty lineSpan
 first-faulty form h [] = rw h
 first-faulty form h (b ∷ bs) = rw (first-line (b ∷ bs) (omega arith))
 
-pub lines-behind : (bs : List ℕ) → drop 1 (lines bs) ≡ lines (drop (span bs + 1) bs)
-unfolding lines span
+pub lines-behind : (bs : List ℕ) → drop 1 (lines bs) ≡ lines (drop (lineSpan bs + 1) bs)
+unfolding lines lineSpan
 lines-behind [] = refl
 lines-behind (b ∷ bs) = rw (first-line (b ∷ bs) (omega arith))
 
-pub first-bytes-are : (bs : List ℕ) → firstBytes (lines bs) ≡ take (span bs) bs
-unfolding lines span firstBytes
+pub first-bytes-are : (bs : List ℕ) → firstBytes (lines bs) ≡ take (lineSpan bs) bs
+unfolding lines lineSpan firstBytes
 first-bytes-are [] = refl
 first-bytes-are (b ∷ bs) = rw (first-line (b ∷ bs) (omega arith))
 
 -- ---- a number
 
-module _ (ds : List ℕ) (i v : ℕ) (so : number ds ≡ spelt v (drop i ds)) where
-  pub number-next : i < length ds → {d : ℕ} → d ≡ value (getD ds i 0) → number ds ≡ spelt (v * 16 + d) (drop (i + 1) ds)
+module _ (ds : List ℕ) (i v : ℕ) (so : hexNumber ds ≡ spelt v (drop i ds)) where
+  pub number-next : i < length ds → {d : ℕ} → d ≡ value (getD ds i 0) → hexNumber ds ≡ spelt (v * 16 + d) (drop (i + 1) ds)
   unfolding spelt
   number-next h e = so ∙ rw (cut ds i h, e)
 
-  pub number-end : length ds ≤ i → v ≡ number ds
+  pub number-end : length ds ≤ i → v ≡ hexNumber ds
   unfolding spelt
   number-end h = sym (so ∙ rw (drop-of-length-le ds h))
 
@@ -231,7 +231,7 @@ pub reading-start : (all : List Line) (t₀ : List ℕ) → Reading all t₀ all
 reading-start all t₀ = record { filled = refl; counted = zero-add (length all); ruled = refl }
 
 module _ {all : List Line} {t₀ t : List ℕ} {n : ℕ} (bs : List ℕ) (some : 0 < length bs) (w : Reading all t₀ (lines bs) t n)
-    {e : ℕ} (q : e ≡ span bs) {b : Bool} (f : b ≡ isNumbers recordDigits (lineTo bs e)) where
+    {e : ℕ} (q : e ≡ lineSpan bs) {b : Bool} (f : b ≡ isNumbers recordDigits (lineTo bs e)) where
   split : lines bs ≡ lineTo bs e ∷ lines (drop (e + 1) bs)
   split = rw q (first-line bs some)
 
@@ -309,14 +309,14 @@ pub numbers-unended : (n : ℕ) → isNumbers n (line [] false) ≡ false
 unfolding isNumbers isHex
 numbers-unended n = refl
 
-module _ (input : List ℕ) {e : ℕ} (a : e ≡ span input) {s : Bool} (p : s ≡ isSource (lineTo input e)) where
+module _ (input : List ℕ) {e : ℕ} (a : e ≡ lineSpan input) {s : Bool} (p : s ≡ isSource (lineTo input e)) where
   source-form : faulty isSource (lines input) ≡ not s
   source-form = first-faulty isSource source-unended input ∙ rw (p, a)
 
   pub no-source : s ≡ false → Refused 9 1 ≡ first (frameRules (lines input))
   no-source q = rw (source-form, q)
 
-  module _ (given : s ≡ true) (rest : List ℕ) (b : rest ≡ drop (e + 1) input) {f : ℕ} (c : f ≡ span rest) {o : Bool} (r : o ≡ isNumbers offsetDigits (lineTo rest f)) where
+  module _ (given : s ≡ true) (rest : List ℕ) (b : rest ≡ drop (e + 1) input) {f : ℕ} (c : f ≡ lineSpan rest) {o : Bool} (r : o ≡ isNumbers offsetDigits (lineTo rest f)) where
     rest-lines : drop 1 (lines input) ≡ lines rest
     rest-lines = lines-behind input ∙ rw (b, a)
 
@@ -344,7 +344,7 @@ module _ (input : List ℕ) {e : ℕ} (a : e ≡ span input) {s : Bool} (p : s �
       pub frame-source : sourceOf (lines input) ≡ pairs (take e input)
       frame-source = rw (first-bytes-are input, a)
 
-      pub frame-offset : offsetOf (lines input) ≡ number (take f rest)
+      pub frame-offset : offsetOf (lines input) ≡ hexNumber (take f rest)
       frame-offset = rw (rest-lines, first-bytes-are rest, c)
 
       pub frame-table : tableOf (lines input) ≡ listBytes recordRow (lines records)

@@ -13,8 +13,8 @@ spelt v [] = v
 spelt v (d ∷ ds) = spelt (v * 16 + value d) ds
 
 -- the number that digits spell
-abbrev pub number : List ℕ → ℕ
-number ds = spelt 0 ds
+abbrev pub hexNumber : List ℕ → ℕ
+hexNumber ds = spelt 0 ds
 
 -- the bytes that digits spell, two digits each
 unfoldable pub pairs : List ℕ → List ℕ
@@ -33,11 +33,11 @@ sourceOf ls = pairs (firstBytes ls)
 
 -- the offset
 abbrev pub offsetOf : List Line → ℕ
-offsetOf ls = number (firstBytes (drop 1 ls))
+offsetOf ls = hexNumber (firstBytes (drop 1 ls))
 
 -- the four numbers of a record's line: kind and depth of two digits, start and end of eight
 unfoldable pub fieldsOf : List ℕ → List ℕ
-fieldsOf ds = number (text ds 0 2) ∷ number (text ds 2 4) ∷ number (text ds 4 12) ∷ number (text ds 12 20) ∷ []
+fieldsOf ds = hexNumber (text ds 0 2) ∷ hexNumber (text ds 2 4) ∷ hexNumber (text ds 4 12) ∷ hexNumber (text ds 12 20) ∷ []
 
 abbrev pub recordRow : Line → List ℕ
 recordRow l = fieldsOf (l .bytes)

@@ -8,14 +8,19 @@ ghost use lib.ListN.{length, drop};
 ghost use lib.Seq.{sets};
 ghost use Rattle.table.specs.Lists.{put};
 ghost use Rattle.lines.specs.Lines.{lines, isDigit, value, allDigits, isHex, isSource, isNumbers, mostBytes};
-ghost use Rattle.lines.specs.Frame.{number, pairs, fieldsOf};
-ghost use Rattle.lines.specs.inner.Reading.{span, lineTo, tableRoom, ReadRecords, ReadFrame};
+ghost use Rattle.lines.specs.Frame.{hexNumber, pairs, fieldsOf};
+ghost use Rattle.lines.specs.inner.Reading.{lineSpan, lineTo, tableRoom, ReadRecords, ReadFrame};
 
+// Refusal 9: a line that is not of the stated form.
+pub const BAD_LINE: u32 = 9;
+
+// What ends a line.
 const LF: u8 = 10;
 
 // The most bytes of a source.
 pub const MOST_BYTES: usize = 4096;
 
+// How many digits the line of an offset has, and that of a record.
 const OFFSET_DIGITS: usize = 8;
 
 const RECORD_DIGITS: usize = 20;
@@ -41,6 +46,7 @@ pub enum Frame {
     Given(usize, usize, usize),
 }
 
+// The value of a digit; of any other byte 0.
 fn value(b: u8) -> usize
     ensures { λ r. ⌜ (r ≡ value b) × (r < 16) ⌝ }
 {
@@ -51,12 +57,14 @@ fn value(b: u8) -> usize
     }
 }
 
+// Is the byte a digit, lower case?
 fn is_digit(b: u8) -> bool
     ensures { λ r. ⌜ r ≡ isDigit b ⌝ }
 {
     ((b'0' <= b) & (b <= b'9')) | ((b'a' <= b) & (b <= b'f'))
 }
 
+// Are all bytes digits?
 fn all_digits(bytes: &[u8]) -> bool
     ensures { λ r. ⌜ r ≡ allDigits (now (bytes .entry)) ⌝ }
 {
@@ -72,7 +80,7 @@ fn all_digits(bytes: &[u8]) -> bool
 
 // Where the first line ends: at its LF, or with the text.
 fn line_end(text: &[u8]) -> usize
-    ensures { λ r. ⌜ (r ≡ span (now (text .entry))) × (r ≤ length (now (text .entry))) ⌝ }
+    ensures { λ r. ⌜ (r ≡ lineSpan (now (text .entry))) × (r ≤ length (now (text .entry))) ⌝ }
 {
     let mut i = 0;
     while i < text.len() {
@@ -96,6 +104,7 @@ fn after_line(text: &[u8], end: usize) -> &[u8]
     &text[end..]
 }
 
+// The text's first line is digits alone, and is ended.
 fn is_hex(text: &[u8], end: usize) -> bool
     requires { ⌜ end ≤ length (now text) ⌝ }
     ensures { λ r. ⌜ r ≡ isHex (lineTo (now (text .entry)) end) ⌝ }
@@ -103,6 +112,7 @@ fn is_hex(text: &[u8], end: usize) -> bool
     (end < text.len()) & all_digits(&text[..end])
 }
 
+// The text's first line is a source: pairs of digits, not too many.
 fn is_source(text: &[u8], end: usize) -> bool
     requires { ⌜ end ≤ length (now text) ⌝ }
     ensures { λ r. ⌜ r ≡ isSource (lineTo (now (text .entry)) end) ⌝ }
@@ -110,6 +120,7 @@ fn is_source(text: &[u8], end: usize) -> bool
     is_hex(text, end) & (end % 2 == 0) & (end <= 2 * MOST_BYTES)
 }
 
+// The text's first line is n digits.
 fn is_numbers(text: &[u8], end: usize, n: usize) -> bool
     requires { ⌜ end ≤ length (now text) ⌝ }
     ensures { λ r. ⌜ r ≡ isNumbers n (lineTo (now (text .entry)) end) ⌝ }
@@ -117,9 +128,10 @@ fn is_numbers(text: &[u8], end: usize, n: usize) -> bool
     is_hex(text, end) & (end == n)
 }
 
+// The number that digits spell, the most significant first.
 pub fn number(digits: &[u8]) -> usize
     requires { ⌜ length (now digits) ≤ 8 ⌝ }
-    ensures { λ r. ⌜ r ≡ number (now (digits .entry)) ⌝ }
+    ensures { λ r. ⌜ r ≡ hexNumber (now (digits .entry)) ⌝ }
 {
     let mut v = 0;
     let mut i = 0;

@@ -18,7 +18,7 @@ use Rattle.table.proofs.Laws.{node-or-token}
 use Rattle.names.specs.declared.names.NameBinding.{NameBinding}
 use Rattle.names.specs.declared.names.Bound.{Bound}
 use Rattle.names.specs.declared.names.Bound.the-variants.{Unnamed, Named}
-use Rattle.names.specs.Names.{byteAt, isPart, isName, isAs, isMark, unquoted, direct, binding, firstOf, lastOf, withItem}
+use Rattle.names.specs.Names.{byteAt, isPart, isName, isAs, isMark, unquoted, direct, binding, firstNamed, lastNamed, withItem}
 
 -- ---- texts
 
@@ -97,7 +97,7 @@ module _ (test : Rec → Bool) (t : Rec) where
 
 module _ (src : List ℕ) (r t : Rec) where
   pub first-here : (f : Forest) → isName src t ≡ true → withItem src r (token t f) ≡ Named (binding src r t)
-  unfolding firstOf
+  unfolding firstNamed
   first-here f e = rw (direct-yes (isName src) t f e)
 
   pub first-on : (f : Forest) → isName src t ≡ false → withItem src r (token t f) ≡ withItem src r f
@@ -114,19 +114,19 @@ first-stop src {s} {base} {i} {r} w h t n y q b =
     rw (b, q, t) (sym (first-here src r (recordAt s base i) _ e) ∙ walk-here w h (name-at src s base i e))
 
 pub first-end : (src : List ℕ) (r : Rec) → Unnamed ≡ withItem src r nil
-unfolding firstOf direct
+unfolding firstNamed direct
 first-end src r = refl
 
 -- the last name where the node r has bound b so far
 abbrev pub lastFrom : List ℕ → Rec → Bound → Forest → Bound
-lastFrom src r b f = lastOf src r b (direct (isName src) f)
+lastFrom src r b f = lastNamed src r b (direct (isName src) f)
 
 module _ (src : List ℕ) (r t : Rec) (b : Bound) {b′ : Bound} (e : b′ ≡ cond (isName src t) (Named (binding src r t)) b) where
   pub last-token : (f : Forest) → lastFrom src r b (token t f) ≡ lastFrom src r b′ f
-  unfolding direct lastOf
+  unfolding direct lastNamed
   last-token f = rw e (go (isName src t))
     where
-      go : (n : Bool) → lastOf src r b (cond n (t ∷ direct (isName src) f) (direct (isName src) f)) ≡ lastOf src r (cond n (Named (binding src r t)) b) (direct (isName src) f)
+      go : (n : Bool) → lastNamed src r b (cond n (t ∷ direct (isName src) f) (direct (isName src) f)) ≡ lastNamed src r (cond n (Named (binding src r t)) b) (direct (isName src) f)
       go true = refl
       go false = refl
 
@@ -135,5 +135,5 @@ module _ (src : List ℕ) (r t : Rec) (b : Bound) {b′ : Bound} (e : b′ ≡ c
   last-over below f h = rw (e, name-node src t h)
 
 pub last-end : (src : List ℕ) (r : Rec) (b : Bound) → b ≡ lastFrom src r b nil
-unfolding direct lastOf
+unfolding direct lastNamed
 last-end src r b = refl

@@ -14,7 +14,7 @@ use Rattle.table.proofs.Laws.{head-part}
 use Rattle.names.specs.declared.names.Bound.{Bound}
 use Rattle.names.specs.declared.bindings.Binder.{Binder}
 use Rattle.names.specs.declared.bindings.Binder.the-variants.{Item, Alias}
-use Rattle.names.specs.Bindings.{entry, gathered, withItems, selectAliases}
+use Rattle.names.specs.Bindings.{entry, boundIn, withItems, selectAliases}
 use Rattle.names.specs.inner.Binders.{binderKind, isList, binds, names}
 use Rattle.table.proofs.Fields.{kind-of}
 
@@ -37,7 +37,7 @@ list-node Alias {k} e y = go (eqb k columnList) (eqb k expressionList) refl refl
 
 module _ (binder : Binder) (src s : List ℕ) (base i : ℕ) (f : Forest) where
   pub names-token : names binder src (token (recordAt s base i) f) ≡ names binder src f
-  unfolding gathered
+  unfolding boundIn
   names-token = refl
 
   module _ {k : ℕ} (e : k ≡ kindAt s i) where
@@ -50,21 +50,21 @@ module _ (binder : Binder) (src s : List ℕ) (base i : ℕ) (f : Forest) where
     pub names-bind : {x : Bool} {b : Bound} {p : List ℕ} → i < count s → p ≡ part s i (stretchEnd s i) → x ≡ eqb k (binderKind binder) → x ≡ true
         → b ≡ binds binder src (recordAt p (base + i) 0) (kids (records (base + i) p))
         → names binder src (node (recordAt s base i) (kids (records (base + i) p)) f) ≡ entry b ++ names binder src f
-    unfolding gathered
+    unfolding boundIn
     names-bind h q x y b = rw (kind-eqb x ∙ y, b, head-part s base i h q)
 
     pub names-list : {x y : Bool} (below : Forest) → x ≡ eqb k (binderKind binder) → x ≡ false → y ≡ isList binder k → y ≡ true
         → names binder src (node (recordAt s base i) below f) ≡ names binder src below ++ names binder src f
-    unfolding gathered
+    unfolding boundIn
     names-list below x n y t = rw (kind-eqb x ∙ n, kind-list y ∙ t)
 
     pub names-over : {x y : Bool} (below : Forest) → x ≡ eqb k (binderKind binder) → x ≡ false → y ≡ isList binder k → y ≡ false
         → names binder src (node (recordAt s base i) below f) ≡ names binder src f
-    unfolding gathered
+    unfolding boundIn
     names-over below x n y t = rw (kind-eqb x ∙ n, kind-list y ∙ t)
 
 pub names-none : (binder : Binder) (src : List ℕ) → names binder src nil ≡ []
-unfolding gathered
+unfolding boundIn
 names-none binder src = refl
 
 -- ---- the walks of WITH items and of column aliases

@@ -67,19 +67,19 @@ unfoldable pub binding : List ℕ → Rec → Rec → NameBinding
 binding src r t = record { token = span t; name = nameOf src t; definition = span r }
 
 -- the node r binds the first of these name tokens
-unfoldable pub firstOf : List ℕ → Rec → List Rec → Bound
-firstOf src r [] = Unnamed
-firstOf src r (t ∷ more) = Named (binding src r t)
+unfoldable pub firstNamed : List ℕ → Rec → List Rec → Bound
+firstNamed src r [] = Unnamed
+firstNamed src r (t ∷ more) = Named (binding src r t)
 
 -- the node r binds the last of these name tokens, or b where there is none
-unfoldable pub lastOf : List ℕ → Rec → Bound → List Rec → Bound
-lastOf src r b [] = b
-lastOf src r b (t ∷ more) = lastOf src r (Named (binding src r t)) more
+unfoldable pub lastNamed : List ℕ → Rec → Bound → List Rec → Bound
+lastNamed src r b [] = b
+lastNamed src r b (t ∷ more) = lastNamed src r (Named (binding src r t)) more
 
 -- a WITH item r with these children: its first direct name
 abbrev pub withItem : List ℕ → Rec → Forest → Bound
-withItem src r below = firstOf src r (direct (isName src) below)
+withItem src r below = firstNamed src r (direct (isName src) below)
 
 -- an alias r with these children: its last direct name
 abbrev pub aliasIn : List ℕ → Rec → Forest → Bound
-aliasIn src r below = lastOf src r Unnamed (direct (isName src) below)
+aliasIn src r below = lastNamed src r Unnamed (direct (isName src) below)

@@ -7,6 +7,7 @@ use table::kinds::COLUMN_ALIAS;
 use table::kinds::COLUMN_LIST;
 use table::kinds::EXPRESSION_LIST;
 use table::kinds::WITH_EXPRESSION_ITEM;
+use table::list::NUMBER_BYTES;
 use table::list::put_entry;
 use table::record::count_of;
 use table::record::kind_at;
@@ -23,8 +24,8 @@ ghost use Rattle.table.specs.Lists.{farthest, Written};
 ghost use Rattle.names.specs.Bindings.{entry, withItems, selectAliases, bindingBytes, bindingRow};
 ghost use Rattle.names.specs.inner.Binders.{binderKind, isList, binds, names};
 
-// How many bytes the entry of a binding takes, and of a reference.
-pub const BINDING_BYTES: usize = 24;
+// How many bytes the entry of a binding takes: six numbers.
+pub const BINDING_BYTES: usize = 6 * NUMBER_BYTES;
 
 // What binds the names of a list: a WITH item or a column alias.
 pub enum Binder {
@@ -43,6 +44,7 @@ pub fn put_bound(b: Bound, out: &mut [u8], at: usize) -> usize
     }
 }
 
+// Writes a binding's entry from byte `at` on, and returns where the next entry goes.
 fn put_binding(b: NameBinding, out: &mut [u8], at: usize) -> usize
     requires { ⌜ at < farthest ⌝ }
     ensures { λ r. ⌜ Written bindingRow (b ∷ []) (now (out .entry)) at (now (out .exit)) r × (r ≤ at + bindingBytes) ⌝ }
@@ -58,6 +60,7 @@ fn put_binding(b: NameBinding, out: &mut [u8], at: usize) -> usize
     put_entry(out, at, &row)
 }
 
+// Is a node of kind k what binds the names?
 fn is_binder(binder: Binder, k: usize) -> bool
     ensures { λ r. ⌜ r ≡ eqb k (binderKind binder) ⌝ }
 {
@@ -67,6 +70,7 @@ fn is_binder(binder: Binder, k: usize) -> bool
     }
 }
 
+// Is a node of kind k a list that is gone through?
 fn is_list(binder: Binder, k: usize) -> bool
     ensures { λ r. ⌜ r ≡ isList binder k ⌝ }
 {
@@ -76,6 +80,7 @@ fn is_list(binder: Binder, k: usize) -> bool
     }
 }
 
+// What the first record of the stretch s binds.
 fn extract_bound(binder: Binder, s: &[u8], base: usize, source: &[u8]) -> Bound
     requires { ⌜ (0 < count (now s)) × (base + count (now s) ≤ mostRecords) ⌝ }
     ensures { λ r. ⌜ r ≡ binds binder (now (source .entry)) (recordAt (now (s .entry)) base 0) (kids (records base (now (s .entry)))) ⌝ }

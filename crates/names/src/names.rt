@@ -37,18 +37,21 @@ fn byte_at(source: &[u8], i: usize) -> u8
     if i < source.len() { source[i] } else { 0 }
 }
 
+// Is the token's text AS, in any ASCII case?
 fn is_as(source: &[u8], t: Rec) -> bool
     ensures { λ x. ⌜ x ≡ isAs (now (source .entry)) t ⌝ }
 {
     says(b"AS", text_of(source, t.start, t.end))
 }
 
+// Is the token a part of a table's name?
 pub fn is_part(t: Rec) -> bool
     ensures { λ x. ⌜ x ≡ isPart t ⌝ }
 {
     (t.kind == BARE_WORD) | (t.kind == QUOTED_IDENTIFIER)
 }
 
+// Is the token a WITH name or an alias?
 fn is_name(source: &[u8], t: Rec) -> bool
     ensures { λ x. ⌜ x ≡ isName (now (source .entry)) t ⌝ }
 {
@@ -61,6 +64,7 @@ fn is_name(source: &[u8], t: Rec) -> bool
     false
 }
 
+// A backtick or a double quote.
 fn is_mark(b: u8) -> bool
     ensures { λ r. ⌜ r ≡ isMark b ⌝ }
 {
@@ -89,6 +93,7 @@ fn unquote(source: &[u8], start: usize, end: usize) -> Range
     }
 }
 
+// The range of a name: a Quoted loses its quotes.
 fn name_of(source: &[u8], t: Rec) -> Range
     ensures { λ r. ⌜ r ≡ nameOf (now (source .entry)) t ⌝ }
 {
@@ -99,6 +104,7 @@ fn name_of(source: &[u8], t: Rec) -> Range
     }
 }
 
+// What the node r binds by its token t.
 fn binding_of(source: &[u8], r: Rec, t: Rec) -> NameBinding
     ensures { λ x. ⌜ x ≡ binding (now (source .entry)) r t ⌝ }
 {

@@ -1,8 +1,6 @@
--- The scope at the cursor: its root is a node of the table, so refusal 8 is never given there, and what is offered stands below the
--- cursor's root with no other root between.
+-- The scope at the cursor: its root is a node of the table, so refusal 8 is never given there.
 --     root-node                           the root is a node of the table
---     offer-refused, offer-given          the reply of a list at the cursor
---     offered-with, -aliases, -columns, -refs    each list is read off the root's tree with every inner subquery emptied
+--     root-within                         so it stands in the table
 -- Assumes nothing.
 use Prim.Native.Nat.{ℕ, zero, suc, _+_, _-_, _≤_, _<_}
 use mathlib.Core.Path.{_≡_, refl, sym, _∙_}
@@ -13,31 +11,24 @@ use mathlib.Core.Option.{Option, none, some}
 use native.Mathlib.Omega.{arith}
 use native.Mathlib.Nat.{zero-add}
 use borrow.Author.Tests.{lt-ltb, le-leb}
-use lib.ListN.{length}
 use Rattle.table.specs.declared.record.Rec.{Rec}
 use Rattle.table.specs.declared.check.Verdict.{Verdict}
-use Rattle.table.specs.declared.check.Verdict.the-variants.{Admitted, Refused}
-use Rattle.table.specs.declared.list.Listed.{Listed}
-use Rattle.table.specs.declared.list.Listed.the-variants.{Refused as Unlisted}
+use Rattle.table.specs.declared.check.Verdict.the-variants.{Admitted}
 use Rattle.table.specs.Kinds.{lastNode}
 use Rattle.table.specs.Table.{count, kindAt, depthAt, recordAt, run, from, records}
 use Rattle.table.specs.Forest.{Forest, nil, token, node, level, kids}
 use Rattle.table.specs.Descent.{path, pathOf}
-use Rattle.table.specs.Rules.{noRoot, Rule, rules, rootRules, first, verdict, rootVerdict}
-use Rattle.table.specs.Lists.{roomRule, listed, lent}
+use Rattle.table.specs.Rules.{mostRecords, noRoot, verdict}
 use Rattle.table.specs.Sense.{treeOf}
 use Rattle.table.proofs.Laws.{lt-or-le, node-or-token, level-shallow, level-deep, level-token, level-node, from-cons}
-use Rattle.table.proofs.Checks.{then-admitted, root-admitted}
+use Rattle.table.proofs.Checks.{root-known, root-admitted}
 use Rattle.table.proofs.Sense.{admitted-tidy}
-use Rattle.table.proofs.Writes.{list-refused}
 use Rattle.statement.specs.declared.statement.Enclosing.{Enclosing}
 use Rattle.statement.specs.declared.statement.Enclosing.the-variants.{Outside, Record}
 use Rattle.table.specs.Ranges.{holds}
 use Rattle.statement.specs.Statement.{itself, isStatement, orElse, firstFind, enclosingAt}
-use Rattle.offers.specs.declared.root.RootReply.{RootReply}
-use Rattle.offers.specs.declared.root.RootReply.the-variants.{Root, Refused as Denied}
 use Rattle.path.specs.Path.{pathAt, deepestOr, deepest, isSubquery}
-use Rattle.offers.specs.Root.{statementOr, rootOf, rootAt, rootReply}
+use Rattle.offers.specs.Root.{statementOr, rootOf, rootAt}
 
 -- ---- every node of the tree is a node of the table
 
@@ -159,47 +150,9 @@ module _ (t : List ℕ) where
       root-from (deepest isSubquery (pathAt t o)) (enclosingAt t o) top
       (picked none isSubquery (pathAt t o) (unfold Picked in tt) (on-path o (w .some) top)) (in-tree o (w .some) top)
 
--- ---- a list at the cursor, from the reply for its root and that of the list's question there
+-- ---- so it stands in the table, which has few records
 
-module _ {E : Type 0} (row : E → List ℕ) (src t : List ℕ) (o : ℕ) (out : List ℕ) (es : ℕ → List E) {reply : RootReply}
-    (told : reply ≡ rootReply (verdict t (length src) 0) (rootAt t o)) where
-  abbrev offer : List E
-  offer = es (rootAt t o)
-
-  refused-is : (v : Verdict) (i k d : ℕ) → Denied k d ≡ rootReply v i → Refused k d ≡ v
-  unfolding rootReply
-  refused-is Admitted i k d e = absurd (let z : _≡_ {A = ℕ} 0 1 = cc in omega arith)
-  refused-is (Refused k′ d′) i k d e = cc
-
-  root-is : (v : Verdict) (i j : ℕ) → Root j ≡ rootReply v i → (Admitted ≡ v) × (j ≡ i)
-  unfolding rootReply
-  root-is Admitted i j e = (refl, cc)
-  root-is (Refused k d) i j e = absurd (let z : _≡_ {A = ℕ} 0 1 = cc in omega arith)
-
-  pub offer-refused : {k d : ℕ} → Denied k d ≡ reply
-      → (Unlisted k d ≡ listed (rules t (length src) 0) row offer out) × (out ≡ lent (rules t (length src) 0) row offer out)
-  unfolding verdict
-  offer-refused {k} {d} e = list-refused row (rules t (length src) 0) offer out (refused-is (verdict t (length src) 0) (rootAt t o) k d (e ∙ told))
-
-  same-list : (rs : List Rule) → Admitted ≡ first rs → (listed rs row offer out ≡ listed [] row offer out) × (lent rs row offer out ≡ lent [] row offer out)
-  unfolding listed lent
-  same-list rs e = let q = then-admitted rs (roomRule row offer out ∷ []) e in (rw q, rw q)
-
-  root-rules : Admitted ≡ verdict t (length src) 0 → noRoot t (rootAt t o) ≡ false → Admitted ≡ first (rootRules t (length src) (rootAt t o))
-  unfolding rootVerdict
-  root-rules e n = root-admitted t (length src) (rootAt t o) e n
-
-  plain-rules : Admitted ≡ verdict t (length src) 0 → Admitted ≡ first (rules t (length src) 0)
-  unfolding verdict
-  plain-rules e = e
-
-  pub offer-given : {i : ℕ} {r : Listed} {out′ : List ℕ} → Root i ≡ reply
-      → (r ≡ listed (rootRules t (length src) i) row (es i) out) × (out′ ≡ lent (rootRules t (length src) i) row (es i) out)
-      → (r ≡ listed (rules t (length src) 0) row offer out) × (out′ ≡ lent (rules t (length src) 0) row offer out)
-  offer-given {i} {r} {out′} e w =
-      let q = root-is (verdict t (length src) 0) (rootAt t o) i (e ∙ told) in
-      let n : noRoot t (rootAt t o) ≡ false = root-node t (length src) (sym (q .0)) o in
-      let v = rw (q .1) at w in
-      let a = same-list (rootRules t (length src) (rootAt t o)) (root-rules (q .0) n) in
-      let b = same-list (rules t (length src) 0) (plain-rules (q .0)) in
-      (v .0 ∙ a .0 ∙ sym (b .0), v .1 ∙ a .1 ∙ sym (b .1))
+pub root-within : (t : List ℕ) (n o : ℕ) {v : Verdict} {i : ℕ} → v ≡ verdict t n 0 → v ≡ Admitted → i ≡ rootAt t o → (i < count t) × (count t ≤ mostRecords)
+root-within t n o e a q =
+    let k = root-known t n (rootAt t o) (root-admitted t n (rootAt t o) (sym a ∙ e) (root-node t n (sym e ∙ a) o)) in
+    rw q (k .1, k .0)

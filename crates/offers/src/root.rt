@@ -7,7 +7,7 @@ use table::check::check;
 ghost use mathlib.Core.Path.{_≡_};
 ghost use Prim.Native.Nat.{_<_};
 ghost use lib.ListN.{length};
-ghost use Rattle.table.specs.Table.{count};
+ghost use Rattle.table.specs.Table.{count, wordLimit};
 ghost use Rattle.table.specs.Rules.{verdict};
 ghost use Rattle.offers.specs.Root.{rootAt, rootReply};
 
@@ -19,8 +19,8 @@ pub enum RootReply {
 }
 
 // The deepest subquery on the path, else the enclosing statement, else record 0.
-fn root_at(table: &[u8], offset: usize) -> u32
-    requires { ⌜ (0 < count (now table)) × (count (now table) < 4294967296) ⌝ }
+pub fn root_at(table: &[u8], offset: usize) -> u32
+    requires { ⌜ (0 < count (now table)) × (count (now table) < wordLimit) ⌝ }
     ensures { λ r. ⌜ r ≡ rootAt (now (table .entry)) offset ⌝ }
 {
     let path = find_node_path(table, offset);

@@ -11,7 +11,7 @@ use Rattle.table.specs.declared.record.Rec.{Rec}
 use Rattle.table.specs.Kinds.{joinConstraint}
 use Rattle.table.specs.Descent.{along}
 use Rattle.path.specs.declared.gathered.Gathered.{Gathered}
-use Rattle.path.specs.Path.{deepestOr, deepest, onPath, isStatement, isSubquery}
+use Rattle.path.specs.Path.{deepestOr, deepest, onPath, trails, isSubquery}
 use Rattle.path.specs.inner.Gathered.{settled, stepped, nothing, gathered}
 
 -- ---- the deepest statement, and the JoinConstraint
@@ -47,9 +47,9 @@ module _ (test : ℕ → Bool) (field : Gathered → ℕ)
       go true = unfold numbered in add-one (r .index)
       go false = e
 
-pub gathered-statement : (p : List Rec) → gathered p .statement ≡ numbered (deepest isStatement p)
+pub gathered-statement : (p : List Rec) → gathered p .statement ≡ numbered (deepest trails p)
 unfolding gathered settled stepped numbered
-gathered-statement p = along-deepest isStatement (λ g. g .statement) (λ g r. refl) p nothing none refl
+gathered-statement p = along-deepest trails (λ g. g .statement) (λ g r. refl) p nothing none refl
 
 -- ---- the context
 

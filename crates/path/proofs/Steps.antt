@@ -11,7 +11,7 @@ use Rattle.table.specs.Table.{records}
 use Rattle.table.specs.Descent.{pathOf, along}
 use Rattle.table.proofs.Descents.{Descent, answer}
 use Rattle.table.specs.Ranges.{holds}
-use Rattle.path.specs.Path.{pathAt, isStatement}
+use Rattle.path.specs.Path.{pathAt, trails}
 use Rattle.table.specs.Kinds.{subqueryExpression}
 use Rattle.path.specs.declared.gathered.Next.{Next}
 use Rattle.path.specs.declared.gathered.Next.the-variants.{Deepest, Above}
@@ -38,7 +38,7 @@ stepped-within g k i n w h =
     record {
       node = h;
       ruled = s .ruled;
-      statement = most n _ _ (isStatement k) (omega arith) (s .statement);
+      statement = most n _ _ (trails k) (omega arith) (s .statement);
       query = most n _ _ (eqb k subqueryExpression) (omega arith) (s .query);
     }
 

@@ -55,5 +55,5 @@ deepestOver x Deepest = true
 deepestOver x (Above k) = eqb k x
 
 -- a statement of kinds 4 to 9
-abbrev pub isStatement : ℕ → Bool
-isStatement k = leb selectStatement k && leb k updateStatement
+abbrev pub trails : ℕ → Bool
+trails k = leb selectStatement k && leb k updateStatement

@@ -34,6 +34,7 @@ ghost use mathlib.Core.Bool.{cond};
 ghost use Prim.Native.Nat.{ℕ, _+_, _<_};
 ghost use Rattle.path.specs.inner.Gathered.{decides, settled, stepped, Within};
 ghost use Rattle.path.specs.Path.{isDeepest, deepestOver};
+ghost use Rattle.table.specs.Table.{wordLimit};
 
 // What stands next below a node of the path: nothing, or a node of this kind.
 pub enum Next {
@@ -54,6 +55,7 @@ pub struct Gathered {
     pub constrained: bool,
 }
 
+// Nothing is gathered yet.
 pub const NOTHING: Gathered = Gathered {
     node: 0,
     kind: OTHER_NODE,
@@ -64,6 +66,7 @@ pub const NOTHING: Gathered = Gathered {
     constrained: false,
 };
 
+// The node is deepest.
 fn is_deepest(next: Next) -> bool
     ensures { λ r. ⌜ r ≡ isDeepest next ⌝ }
 {
@@ -115,6 +118,7 @@ fn decides(kind: usize, next: Next) -> bool
     }
 }
 
+// One of two numbers.
 pub fn chosen(c: bool, new: usize, old: usize) -> usize
     ensures { λ r. ⌜ r ≡ cond c new old ⌝ }
 {
@@ -139,7 +143,7 @@ pub fn settle(g: Gathered, next: Next) -> Gathered
 
 // One step down, to node i, of this kind.
 pub fn enter(g: Gathered, kind: usize, i: usize) -> Gathered
-    requires { ⌜ i < 4294967296 ⌝ }
+    requires { ⌜ i < wordLimit ⌝ }
     ensures { λ r. ⌜ (r ≡ stepped g kind i) × ((n : ℕ) → Within n g → i < n → Within n r) ⌝ }
 {
     let above = settle(g, Next::Above(kind));

@@ -12,14 +12,14 @@ use table::stretch::child_from;
 use table::stretch::rest_from;
 ghost use mathlib.Core.Path.{_≡_};
 ghost use Prim.Native.Nat.{_+_, _<_};
-ghost use Rattle.table.specs.Table.{count};
+ghost use Rattle.table.specs.Table.{count, wordLimit};
 ghost use Rattle.path.specs.Path.{pathAt};
 ghost use Rattle.path.specs.inner.Gathered.{Within, gathered};
 
 // The way from record 0, which is on it whatever its span, down to the offset. `child` is the first that holds it, 0 for none
 // yet: it ends the walk.
 pub fn find_node_path(table: &[u8], offset: usize) -> Gathered
-    requires { ⌜ (0 < count (now table)) × (count (now table) < 4294967296) ⌝ }
+    requires { ⌜ (0 < count (now table)) × (count (now table) < wordLimit) ⌝ }
     ensures { λ r. ⌜ (r ≡ gathered (pathAt (now (table .entry)) offset)) × Within (count (now (table .entry))) r ⌝ }
 {
     let mut g = enter(NOTHING, kind_at(table, 0), 0);

@@ -14,7 +14,7 @@ const HEAD: usize = 17;
 const ROOM: usize = 65536;
 
 // What is found at the next frame of the list.
-enum Found {
+enum Outcome {
     Agrees,
     Differs,
     // the list breaks off, or its numbers are too large
@@ -23,69 +23,72 @@ enum Found {
 }
 
 // Compares what is printed for an input with what is stored for it.
-fn compare(input: &[u8], stored: &[u8]) -> Found {
+fn compare(input: &[u8], stored: &[u8]) -> Outcome {
     let mut text = [0u8; TEXT_ROOM];
     let k = glance(input, &mut text);
     if k != stored.len() {
-        return Found::Differs;
+        return Outcome::Differs;
     }
     if same(&text[..k], stored) {
-        return Found::Agrees;
+        return Outcome::Agrees;
     }
-    Found::Differs
+    Outcome::Differs
 }
 
 // Reads an input of n bytes and an answer of m into their buffers.
-fn read_frame(n: usize, m: usize, input: &mut [u8], stored: &mut [u8]) -> Found {
+fn read_stored(n: usize, m: usize, input: &mut [u8], stored: &mut [u8]) -> Outcome {
     if input.len() < n {
-        return Found::Broken;
+        return Outcome::Broken;
     }
     if stored.len() < m {
-        return Found::Broken;
+        return Outcome::Broken;
     }
     if io::read_full(STDIN_FILENO, &mut input[..n]) != n {
-        return Found::Broken;
+        return Outcome::Broken;
     }
     if io::read_full(STDIN_FILENO, &mut stored[..m]) != m {
-        return Found::Broken;
+        return Outcome::Broken;
     }
     compare(&input[..n], &stored[..m])
 }
 
-fn next_frame() -> Found {
+// Reads the next stored frame and compares it.
+fn next_frame() -> Outcome {
     let mut head = [0u8; HEAD];
     let got = io::read_full(STDIN_FILENO, &mut head);
     if got == 0 {
-        return Found::End;
+        return Outcome::End;
     }
     if got < HEAD {
-        return Found::Broken;
+        return Outcome::Broken;
     }
     let n = number(&head[..8]);
     let m = number(&head[8..16]);
     let mut input = [0u8; ROOM];
     let mut stored = [0u8; TEXT_ROOM];
-    read_frame(n, m, &mut input, &mut stored)
+    read_stored(n, m, &mut input, &mut stored)
 }
 
+// Writes how many frames agree.
 fn tell(what: &[u8], n: u64) {
     io::write_all(STDOUT_FILENO, what);
     io::print_decimal(STDOUT_FILENO, n);
     io::write_all(STDOUT_FILENO, b"\n");
 }
 
+// Replays the list on standard input.
 fn main() {
     let mut frames: u64 = 0;
     let mut agreed: u64 = 0;
     while frames < u64::MAX {
         match next_frame() {
-            Found::End => break,
-            Found::Broken => {
+            Outcome::End => break,
+            Outcome::Broken => {
                 tell(b"the list breaks off at frame ", frames);
                 break;
             }
-            Found::Differs => tell(b"another answer at frame ", frames),
-            Found::Agrees => agreed += 1,
+            Outcome::Differs => tell(b"another answer at frame ", frames),
+            Outcome::Agrees => agreed += 1,
         }
         frames += 1;
     }

@@ -30,10 +30,10 @@ use Rattle.scope.specs.declared.semantic_tokens.TokenClass.{TokenClass}
 use Rattle.statement.specs.Statement.{told, statementReply}
 use Rattle.scope.specs.Classes.{numberOf, entryOf, classOf, classes, classesOf}
 use Rattle.scope.specs.declared.semantic_tokens.TokenClass.the-variants.{Unclassed}
-use Rattle.brackets.specs.Brackets.{isOpener, isCloser, fits, closed, stepped, left, stackLeft, indexOf, openersLeft}
+use Rattle.brackets.specs.Brackets.{isOpener, isCloser, fits, closed, stackStep, left, stackLeft, indexOf, openersLeft}
 use Rattle.tables.specs.Tables.{referenceRow}
 use Rattle.scope.specs.Scope.{tableRefs}
-use Rattle.report.specs.Output.{printedList, referenceLines, answeredBy, answered, refusalLine, referenceRoom, questionVerdict, unlessRefused, replied}
+use Rattle.report.specs.Output.{printedList, referenceLines, answeredBy, answerText, refusalLine, referenceRoom, questionVerdict, unlessRefused, replied}
 use Rattle.report.specs.inner.Writing.{printedWords}
 use Rattle.report.proofs.Writing.{printed-are}
 
@@ -145,7 +145,7 @@ module _ (src t out : List ℕ) (z : length out ≡ referenceRoom) where
     question-admitted = admitted-first (rules t (length src) 0) _ (admitted-first (rootRules t (length src) 0) _ admitted)
 
     pub question-answered : (o : ℕ) {lines : List ℕ} → lines ≡ referenceLines src t → replied src t o ≡ answeredBy src t o lines
-    unfolding unlessRefused answered
+    unfolding unlessRefused answerText
     question-answered o q = rw (← (admitted ∙ same-verdict), q)
 
 -- ---- how many entries
@@ -185,11 +185,11 @@ closed-less (o ∷ stack) c = go (fits (o .kind) c) refl
     go true e = rw e (omega arith)
     go false e = rw e (omega arith)
 
-stepped-one : (stack : List Rec) (r : Rec) → length (stepped stack r) ≤ suc (length stack)
-unfolding stepped
+stepped-one : (stack : List Rec) (r : Rec) → length (stackStep stack r) ≤ suc (length stack)
+unfolding stackStep
 stepped-one stack r = go (isOpener (r .kind)) refl (isCloser (r .kind)) refl
   where
-    go : (b : Bool) → isOpener (r .kind) ≡ b → (d : Bool) → isCloser (r .kind) ≡ d → length (stepped stack r) ≤ suc (length stack)
+    go : (b : Bool) → isOpener (r .kind) ≡ b → (d : Bool) → isCloser (r .kind) ≡ d → length (stackStep stack r) ≤ suc (length stack)
     go true e d q = rw e (omega arith)
     go false e true q = rw (e, q) (omega (arith, closed-less stack (r .kind)))
     go false e false q = rw (e, q) (omega arith)
@@ -197,7 +197,7 @@ stepped-one stack r = go (isOpener (r .kind)) refl (isCloser (r .kind)) refl
 left-below : (stack : List Rec) (p : ℕ) (f : Forest) → length (left stack f) ≤ length stack + length (inOrder p f)
 unfolding left inOrder
 left-below stack p nil = omega arith
-left-below stack p (token r rest) = omega (arith, left-below (stepped stack r) p rest, stepped-one stack r)
+left-below stack p (token r rest) = omega (arith, left-below (stackStep stack r) p rest, stepped-one stack r)
 left-below stack p (node r below rest) =
     omega (arith, left-below (left stack below) p rest, left-below stack (r .index) below, length-append (inOrder (r .index) below) (inOrder p rest))
 

@@ -13,8 +13,8 @@ use Rattle.table.specs.Text.{bytesOf}
 use Rattle.statement.specs.declared.statement.Enclosing.{Enclosing}
 use Rattle.statement.specs.declared.statement.Enclosing.the-variants.{Outside, Record}
 use Rattle.tables.specs.declared.pending.TableRef.{TableRef}
-use Rattle.scope.specs.Classes.{row as classRow, classesOf}
-use Rattle.brackets.specs.Brackets.{row as openerRow, openersLeft}
+use Rattle.scope.specs.Classes.{classRow as classRow, classesOf}
+use Rattle.brackets.specs.Brackets.{openerRow as openerRow, openersLeft}
 use Rattle.tables.specs.Tables.{referenceRow}
 use Rattle.scope.specs.Scope.{tableRefs}
 use Rattle.statement.specs.Statement.{enclosingAt}
@@ -22,6 +22,8 @@ use Rattle.cursor.specs.declared.context.CursorContext.{CursorContext}
 use Rattle.cursor.specs.CursorContext.{contextAt}
 use Rattle.cursor.specs.Context.{coded}
 use Rattle.lines.specs.Lines.{lf}
+use Rattle.table.specs.Table.{wordLimit}
+use Rattle.table.specs.Ranges.{absentNumber}
 
 -- ---- the bytes that stand for themselves: a space, and the letters that begin the lines
 
@@ -65,7 +67,7 @@ field v = space ∷ decimal v
 
 -- an absent range is 4294967295 twice, and is printed as `- -`
 unfoldable pub range : ℕ → ℕ → List ℕ
-range s e = cond (eqb s 4294967295 && eqb e 4294967295) (bytesOf " - -") (field s ++ field e)
+range s e = cond (eqb s absentNumber && eqb e absentNumber) (bytesOf " - -") (field s ++ field e)
 
 -- some numbers; some ranges
 unfoldable pub fields : List ℕ → List ℕ
@@ -79,7 +81,7 @@ ranges (s ∷ e ∷ vs) = range s e ++ ranges vs
 
 -- what the 32 bits of a number hold
 abbrev pub held : ℕ → ℕ
-held v = v % 4294967296
+held v = v % wordLimit
 
 -- ---- the lines
 
@@ -130,20 +132,20 @@ answeredBy src t o refs =
     contextLine (contextAt src t o) ++ statementLine (enclosingAt t o) ++ refs ++ classLines src t ++ openerLines t ++ endLine
 
 -- the answer, with the lines of record 0's references
-unfoldable pub answered : List ℕ → List ℕ → ℕ → List ℕ
-answered src t o = answeredBy src t o (referenceLines src t)
+unfoldable pub answerText : List ℕ → List ℕ → ℕ → List ℕ
+answerText src t o = answeredBy src t o (referenceLines src t)
 
 -- how many bytes of room the reference list has
 abbrev pub referenceRoom : ℕ
 referenceRoom = 16384
 
 -- 7: the reference list needs more
-abbrev pub roomRule : List TableRef → Rule
-roomRule refs = rule 7 (length refs) (ltb referenceRoom (length (listBytes referenceRow refs)))
+abbrev pub referenceRule : List TableRef → Rule
+referenceRule refs = rule 7 (length refs) (ltb referenceRoom (length (listBytes referenceRow refs)))
 
 -- the verdict on a source and a table: document 01's order, with record 0 as the root
 unfoldable pub questionVerdict : List ℕ → List ℕ → Verdict
-questionVerdict src t = first (rootRules t (length src) 0 ++ roomRule (tableRefs src t 0) ∷ [])
+questionVerdict src t = first (rootRules t (length src) 0 ++ referenceRule (tableRefs src t 0) ∷ [])
 
 -- a refusal prints `R number detail` alone
 unfoldable pub unlessRefused : Verdict → List ℕ → List ℕ
@@ -152,4 +154,4 @@ unlessRefused (Refused k d) text = refusalLine k d
 
 -- what is printed for a table, a source and an offset
 abbrev pub replied : List ℕ → List ℕ → ℕ → List ℕ
-replied src t o = unlessRefused (questionVerdict src t) (answered src t o)
+replied src t o = unlessRefused (questionVerdict src t) (answerText src t o)

@@ -11,6 +11,7 @@ use statement::statement::enclosing_statement;
 use table::list::Listed;
 use table::list::NUMBER_BYTES;
 use table::range::ABSENT;
+use table::record::WORD_LIMIT;
 use table::record::word_at;
 ghost use mathlib.Core.Path.{_≡_};
 ghost use mathlib.Core.List.{[], _∷_};
@@ -18,14 +19,15 @@ ghost use Prim.Native.Nat.{_+_, _*_, _/_, _≤_, _<_};
 ghost use lib.ListN.{length};
 ghost use Rattle.table.specs.declared.check.Verdict.the-variants.{Admitted};
 ghost use Rattle.table.specs.Rules.{verdict};
-ghost use Rattle.table.specs.Table.{count};
+ghost use Rattle.table.specs.Table.{count, wordLimit};
 ghost use Rattle.table.specs.Lists.{numberBytes};
 ghost use Rattle.cursor.specs.CursorContext.{contextAt};
 ghost use Rattle.statement.specs.declared.statement.Enclosing.the-variants.{Record};
 ghost use Rattle.tables.specs.Tables.{referenceBytes};
 ghost use Rattle.statement.specs.Statement.{enclosingAt};
 ghost use Rattle.lines.specs.Lines.{mostLines};
-ghost use Rattle.report.specs.Output.{letterT, decimal, field, range, fields, ranges, printed, contextLine, statementLine, classLines, openerLines, refusalLine, answeredBy, replied};
+ghost use Rattle.report.specs.Output.{letterT, decimal, field, range, fields, ranges, printed};
+ghost use Rattle.report.specs.Output.{contextLine, statementLine, classLines, openerLines, refusalLine, answeredBy, replied};
 ghost use Rattle.report.specs.inner.Writing.{Put, words, printedWords, lineRoom, mostReferences, textRoom};
 
 // How many bytes of room the lists have: the references as document 01 says, the others for an entry of each record.
@@ -34,9 +36,6 @@ const REFERENCE_ROOM: usize = 16384;
 const CLASS_ROOM: usize = 12288;
 
 const OPENER_ROOM: usize = 4096;
-
-// How many values 32 bits have.
-const VALUES: usize = 4294967296;
 
 // Writes a byte and returns where the next goes.
 fn put_byte(out: &mut [u8], at: usize, b: u8) -> usize
@@ -62,7 +61,7 @@ fn put_text(out: &mut [u8], at: usize, text: &[u8]) -> usize
 
 // Writes a number's digits: those of its tenth, and its last.
 fn put_decimal(out: &mut [u8], at: usize, v: usize) -> usize
-    requires { ⌜ (v < 4294967296) × (at + 10 ≤ length (now out)) ⌝ }
+    requires { ⌜ (v < wordLimit) × (at + 10 ≤ length (now out)) ⌝ }
     ensures { λ r. ⌜ Put (decimal v) (now (out .entry)) at (now (out .exit)) r ⌝ }
 {
     if v < 10 {
@@ -72,16 +71,18 @@ fn put_decimal(out: &mut [u8], at: usize, v: usize) -> usize
     put_byte(out, next, (48 + v % 10) as u8)
 }
 
+// Writes a space and a number.
 fn put_field(out: &mut [u8], at: usize, v: usize) -> usize
-    requires { ⌜ (v < 4294967296) × (at + 11 ≤ length (now out)) ⌝ }
+    requires { ⌜ (v < wordLimit) × (at + 11 ≤ length (now out)) ⌝ }
     ensures { λ r. ⌜ Put (field v) (now (out .entry)) at (now (out .exit)) r × (r ≤ at + 11) ⌝ }
 {
     let next = put_byte(out, at, b' ');
     put_decimal(out, next, v)
 }
 
+// Writes a range, `- -` where it is absent.
 fn put_range(out: &mut [u8], at: usize, start: usize, end: usize) -> usize
-    requires { ⌜ (start < 4294967296) × («end» < 4294967296) × (at + 22 ≤ length (now out)) ⌝ }
+    requires { ⌜ (start < wordLimit) × («end» < wordLimit) × (at + 22 ≤ length (now out)) ⌝ }
     ensures { λ r. ⌜ Put (range start «end») (now (out .entry)) at (now (out .exit)) r × (r ≤ at + 22) ⌝ }
 {
     if (start == ABSENT) & (end == ABSENT) {
@@ -166,6 +167,7 @@ fn put_list(
     next
 }
 
+// Writes the line of a context.
 fn put_code(out: &mut [u8], at: usize, c: CursorContext) -> usize
     requires { ⌜ at + lineRoom ≤ length (now out) ⌝ }
     ensures { λ r. ⌜ Put (contextLine c) (now (out .entry)) at (now (out .exit)) r × (r ≤ at + lineRoom) ⌝ }
@@ -173,16 +175,17 @@ fn put_code(out: &mut [u8], at: usize, c: CursorContext) -> usize
     let k = code_of(c);
     let name = k.name;
     let first = put_byte(out, at, b'C');
-    let second = put_field(out, first, k.number % VALUES);
-    let third = put_range(out, second, name.start % VALUES, name.end % VALUES);
-    let fourth = put_field(out, third, k.index % VALUES);
+    let second = put_field(out, first, k.number % WORD_LIMIT);
+    let third = put_range(out, second, name.start % WORD_LIMIT, name.end % WORD_LIMIT);
+    let fourth = put_field(out, third, k.index % WORD_LIMIT);
     put_byte(out, fourth, b'\n')
 }
 
 // The context of an admitted table, as a line.
 fn put_context(out: &mut [u8], at: usize, table: &[u8], source: &[u8], offset: usize) -> usize
     requires { ⌜ (Admitted ≡ verdict (now table) (length (now source)) 0) × (at + lineRoom ≤ length (now out)) ⌝ }
-    ensures { λ r. ⌜ Put (contextLine (contextAt (now (source .entry)) (now (table .entry)) offset)) (now (out .entry)) at (now (out .exit)) r × (r ≤ at + lineRoom) ⌝ }
+    ensures { λ r. ⌜ Put (contextLine (contextAt (now (source .entry)) (now (table .entry)) offset)) (now (out .entry)) at (now (out .exit)) r
+        × (r ≤ at + lineRoom) ⌝ }
 {
     match cursor_context(table, source, offset) {
         ContextReply::Context(c) => put_code(out, at, c),
@@ -190,6 +193,7 @@ fn put_context(out: &mut [u8], at: usize, table: &[u8], source: &[u8], offset: u
     }
 }
 
+// Writes the line of a statement that was found.
 fn put_found(out: &mut [u8], at: usize, found: u32) -> usize
     requires { ⌜ at + lineRoom ≤ length (now out) ⌝ }
     ensures { λ r. ⌜ Put (statementLine (Record found)) (now (out .entry)) at (now (out .exit)) r × (r ≤ at + lineRoom) ⌝ }
@@ -235,6 +239,7 @@ fn put_openers(out: &mut [u8], at: usize, table: &[u8], source: &[u8]) -> usize
     }
 }
 
+// Writes the line of a refusal.
 pub fn put_refusal(out: &mut [u8], number: u32, detail: u32) -> usize
     requires { ⌜ lineRoom ≤ length (now out) ⌝ }
     ensures { λ r. ⌜ Put (refusalLine number detail) (now (out .entry)) 0 (now (out .exit)) r × (r ≤ lineRoom) ⌝ }
@@ -254,8 +259,10 @@ fn put_answer(
     refs: &[u8],
     n: usize,
 ) -> usize
-    requires { ⌜ (Admitted ≡ verdict (now table) (length (now source)) 0) × (count (now table) ≤ mostLines) × (n * referenceBytes ≤ length (now refs)) × (n ≤ mostReferences) × (textRoom ≤ length (now out)) ⌝ }
-    ensures { λ r. ⌜ Put (answeredBy (now (source .entry)) (now (table .entry)) offset (printedWords letterT 1 7 (now (refs .entry)) 0 n)) (now (out .entry)) 0 (now (out .exit)) r × (r ≤ textRoom) ⌝ }
+    requires { ⌜ (Admitted ≡ verdict (now table) (length (now source)) 0) × (count (now table) ≤ mostLines)
+        × (n * referenceBytes ≤ length (now refs)) × (n ≤ mostReferences) × (textRoom ≤ length (now out)) ⌝ }
+    ensures { λ r. ⌜ Put (answeredBy (now (source .entry)) (now (table .entry)) offset (printedWords letterT 1 7 (now (refs .entry)) 0 n))
+        (now (out .entry)) 0 (now (out .exit)) r × (r ≤ textRoom) ⌝ }
 {
     let first = put_context(out, 0, table, source, offset);
     let second = put_statement(out, first, table, source, offset);

@@ -27,7 +27,7 @@ use Rattle.tables.specs.declared.pending.TableRef.{TableRef}
 use Rattle.scope.specs.Collection.{collection, ownTables}
 use Rattle.tables.specs.Tables.{references, referenceBytes, referenceRow}
 use Rattle.scope.specs.Scope.{tableRefs}
-use Rattle.roots.specs.Reach.{isRoot, isName, refs, rootIs, reaches, times, Exact}
+use Rattle.roots.specs.Reach.{isRoot, isTableName, refs, rootIs, reaches, times, Exact}
 use Rattle.roots.specs.AllRoots.{recordsIn, timesIn, Served, shown, AllRoots}
 use Rattle.roots.proofs.Exact.{table-exact, sum-same}
 

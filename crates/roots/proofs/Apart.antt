@@ -17,9 +17,9 @@ use Rattle.tables.specs.declared.pending.Pending.{Pending}
 use Rattle.tables.specs.declared.pending.Pending.the-variants.{Nothing}
 use Rattle.names.specs.declared.names.Bound.{Bound}
 use Rattle.names.specs.Names.{isName, isPart, direct, withItem, aliasIn}
-use Rattle.scope.specs.Collection.{entered, collected, collection, ownWith, ownColumns, ownTables}
-use Rattle.names.specs.Bindings.{entry, gathered}
-use Rattle.tables.specs.Tables.{fresh, aliased, Listing, handOn, listAlias, reading, references, aliases}
+use Rattle.scope.specs.Collection.{nodeGives, collected, collection, ownWith, ownColumns, ownTables}
+use Rattle.names.specs.Bindings.{entry, boundIn}
+use Rattle.tables.specs.Tables.{fresh, aliased, Listing, handOn, listAlias, tableReading, references, aliases}
 use Rattle.roots.specs.AllRoots.{emptied}
 use Rattle.roots.proofs.Counts.{decide}
 
@@ -55,14 +55,14 @@ inner-on r below e = rw e
 module _ (kind : ℕ) (isList : ℕ → Bool) (bind : Rec → Forest → Bound) (not-sub : eqb subqueryExpression kind ≡ false) (not-list : isList subqueryExpression ≡ false)
     (bind-same : (r : Rec) (f : Forest) → bind r (emptied f) ≡ bind r f) where
   abbrev all-of : Forest → List NameBinding
-  all-of = gathered kind isList bind
+  all-of = boundIn kind isList bind
 
   -- what a node gives
   abbrev gives : Rec → Forest → List NameBinding → List NameBinding
   gives r below inside = cond (eqb (r .kind) kind) (entry (bind r below)) (cond (isList (r .kind)) inside [])
 
   gathered-node : (r : Rec) (below rest : Forest) → all-of (node r below rest) ≡ gives r below (all-of below) ++ all-of rest
-  unfolding gathered
+  unfolding boundIn
   gathered-node r below rest = refl
 
   gives-sub : (r : Rec) (below : Forest) (inside : List NameBinding) → r .kind ≡ subqueryExpression → gives r below inside ≡ []
@@ -72,7 +72,7 @@ module _ (kind : ℕ) (isList : ℕ → Bool) (bind : Rec → Forest → Bound) 
       rw (a, b)
 
   gathered-token : (r : Rec) (rest : Forest) → all-of (token r rest) ≡ all-of rest
-  unfolding gathered
+  unfolding boundIn
   gathered-token r rest = refl
 
   gathered-same : (f : Forest) → all-of (emptied f) ≡ all-of f
@@ -89,14 +89,14 @@ module _ (kind : ℕ) (isList : ℕ → Bool) (bind : Rec → Forest → Bound) 
 
 module _ {E : Type 0} (L : Listing E) (src : List ℕ) where
   abbrev read : Pending → Forest → List E
-  read = reading L src
+  read = tableReading L src
 
   read-token : (p : Pending) (r : Rec) (rest : Forest) → read p (token r rest) ≡ read p rest
-  unfolding reading
+  unfolding tableReading
   read-token p r rest = refl
 
   read-sub : (p : Pending) (r : Rec) (below rest : Forest) → r .kind ≡ subqueryExpression → read p (node r below rest) ≡ read p rest
-  unfolding reading
+  unfolding tableReading
   read-sub p r below rest e =
       rw (
         ne-eqb (r .kind) 33 (λ q. omega arith),
@@ -110,7 +110,7 @@ module _ {E : Type 0} (L : Listing E) (src : List ℕ) where
 
   read-node : (p : Pending) (r : Rec) (below rest : Forest) → read Nothing (emptied below) ≡ read Nothing below
       → ((q : Pending) → read q (emptied rest) ≡ read q rest) → read p (node r (emptied below) (emptied rest)) ≡ read p (node r below rest)
-  unfolding reading
+  unfolding tableReading
   read-node p r below rest ib ir =
       rw (
         direct-same isPart below,
@@ -139,7 +139,7 @@ module _ {E : Type 0} (own : ℕ → Forest → List E) (own-same : (k : ℕ) (f
   collected-token r rest = refl
 
   abbrev visited : Rec → Forest → List E → List E
-  visited r below inside = cond (eqb (r .kind) subqueryExpression) [] (entered own (r .kind) below inside)
+  visited r below inside = cond (eqb (r .kind) subqueryExpression) [] (nodeGives own (r .kind) below inside)
 
   collected-node : (r : Rec) (below rest : Forest) → collected own (node r below rest) ≡ visited r below (collected own below) ++ collected own rest
   unfolding collected
@@ -148,8 +148,8 @@ module _ {E : Type 0} (own : ℕ → Forest → List E) (own-same : (k : ℕ) (f
   visited-sub : (r : Rec) (below : Forest) (inside : List E) → r .kind ≡ subqueryExpression → visited r below inside ≡ []
   visited-sub r below inside e = rw (eq-eqb (r .kind) 30 e)
 
-  entered-same : (k : ℕ) (below : Forest) (inside : List E) → entered own k (emptied below) inside ≡ entered own k below inside
-  unfolding entered
+  entered-same : (k : ℕ) (below : Forest) (inside : List E) → nodeGives own k (emptied below) inside ≡ nodeGives own k below inside
+  unfolding nodeGives
   entered-same k below inside = rw (own-same k below)
 
   collected-same : (f : Forest) → collected own (emptied f) ≡ collected own f

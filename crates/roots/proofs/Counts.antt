@@ -18,9 +18,9 @@ use Rattle.names.specs.declared.names.Bound.the-variants.{Unnamed, Named}
 use Rattle.tables.specs.declared.pending.Pending.{Pending}
 use Rattle.tables.specs.declared.pending.Pending.the-variants.{Nothing, Held}
 use Rattle.names.specs.Names.{isPart, direct, aliasIn}
-use Rattle.scope.specs.Collection.{entered, collected, collection, ownTables}
-use Rattle.tables.specs.Tables.{fresh, aliased, handOn, listAlias, reading, references}
-use Rattle.roots.specs.Reach.{isTop, isRoot, oneOrTwo, named, isName, refs, upToRoot, every, fromOrJoin, passes, noWith, reach, reaching}
+use Rattle.scope.specs.Collection.{nodeGives, collected, collection, ownTables}
+use Rattle.tables.specs.Tables.{fresh, aliased, handOn, listAlias, tableReading, references}
+use Rattle.roots.specs.Reach.{isTop, isRoot, oneOrTwo, hasOneOrTwo, isTableName, refs, upToRoot, every, fromOrJoin, passes, noWith, reach, reaching}
 
 -- ---- the kinds that matter
 
@@ -52,7 +52,7 @@ unfoldable pub reached : (ℕ → ℕ) → Forest → ℕ
 reached w nil = 0
 reached w (token r rest) = reached w rest
 reached w (node r below rest) =
-    cond (eqb (r .kind) 33 && named below) (w (r .index)) 0 + cond (passes (r .kind)) (reached w below) 0 + reached w rest
+    cond (eqb (r .kind) 33 && hasOneOrTwo below) (w (r .index)) 0 + cond (passes (r .kind)) (reached w below) 0 + reached w rest
 
 module _ (w : ℕ → ℕ) where
   abbrev pub weight : List TableRef → ℕ
@@ -86,13 +86,13 @@ module _ (w : ℕ → ℕ) where
 
   module _ (src : List ℕ) where
     abbrev read : Pending → Forest → List TableRef
-    read = reading references src
+    read = tableReading references src
 
     read-node : (r : Rec) (below rest : Forest) (p : Pending) → Sort (r .kind)
         → weight (read Nothing below) ≡ weight (handOn references Nothing) + reached w below
         → ((q : Pending) → weight (read q rest) ≡ weight (handOn references q) + reached w rest)
         → weight (read p (node r below rest)) ≡ weight (handOn references p) + reached w (node r below rest)
-    unfolding reading reached
+    unfolding tableReading reached
     read-node r below rest p (isWith e) ib ir = rw e (omega (arith, ir p))
     read-node r below rest p (isFrom e) ib ir = rw e (omega (arith, ir p))
     read-node r below rest p (isJoin e) ib ir =
@@ -114,7 +114,7 @@ module _ (w : ℕ → ℕ) where
     read-node r below rest p (isOther a b c d e f g) ib ir = rw (e, g, f, c) (omega (arith, ir p))
 
     pub read-weight : (p : Pending) (f : Forest) → weight (read p f) ≡ weight (handOn references p) + reached w f
-    unfolding reading reached
+    unfolding tableReading reached
     read-weight p nil = omega arith
     read-weight p (token r rest) = read-weight p rest
     read-weight p (node r below rest) = read-node r below rest p (sort (r .kind)) (read-weight Nothing below) (λ q. read-weight q rest)
@@ -210,13 +210,13 @@ module _ (src : List ℕ) where
   collected-sub r below rest e = rw e
 
   weight-entered : (w : ℕ → ℕ) (k : ℕ) (below : Forest) (inner : List TableRef)
-      → weight w (entered own k below inner) ≡ cond (eqb k 14) 0 (cond (fromOrJoin k) (reached w below) 0 + weight w inner)
-  unfolding entered ownTables sum
+      → weight w (nodeGives own k below inner) ≡ cond (eqb k 14) 0 (cond (fromOrJoin k) (reached w below) 0 + weight w inner)
+  unfolding nodeGives ownTables sum
   weight-entered w k below inner = decide k 14 (λ e. rw e) (λ e. rw e (go (fromOrJoin k)))
     where
-      go : (f : Bool) → weight w (cond f (reading references src Nothing below) [] ++ inner) ≡ cond f (reached w below) 0 + weight w inner
+      go : (f : Bool) → weight w (cond f (tableReading references src Nothing below) [] ++ inner) ≡ cond f (reached w below) 0 + weight w inner
       go true =
-          rw (sum-append (λ (x : TableRef). w (x .«record»)) (reading references src Nothing below) inner)
+          rw (sum-append (λ (x : TableRef). w (x .«record»)) (tableReading references src Nothing below) inner)
           (omega (arith, read-weight w src Nothing below, weight-idle w))
       go false = omega arith
 
@@ -225,7 +225,7 @@ module _ (src : List ℕ) where
       ≡ cond (eqb (r .kind) 14) 0 (cond (fromOrJoin (r .kind)) (reached w below) 0 + weight w (gives below)) + weight w (gives rest)
   unfolding collected
   collected-on w r below rest e =
-      rw e (rw (sum-append (λ (x : TableRef). w (x .«record»)) (entered own (r .kind) below (gives below)) (gives rest), weight-entered w (r .kind) below (gives below)))
+      rw e (rw (sum-append (λ (x : TableRef). w (x .«record»)) (nodeGives own (r .kind) below (gives below)) (gives rest), weight-entered w (r .kind) below (gives below)))
 
 -- the two sides at a node, as numbers: t WITH, f FROM or JOIN, p passes, m a name; c nothing bars the way above
 level-out : (t f p m c : Bool) (h w rb cb rr cr : ℕ)
@@ -262,7 +262,7 @@ level-out t f p m c h w rb cb rr cr =
 module _ (src : List ℕ) (v : ℕ → ℕ → ℕ) where
   -- what a name is due
   abbrev pub due : Place → ℕ
-  due p = cond (isName p) (hits (p .above) * v (nearest (p .above)) (p .self .index)) 0
+  due p = cond (isTableName p) (hits (p .above) * v (nearest (p .above)) (p .self .index)) 0
 
   -- what a root lists
   abbrev pub lists : Place → ℕ
@@ -282,12 +282,12 @@ module _ (src : List ℕ) (v : ℕ → ℕ → ℕ) where
   sum-node g above r below rest = rw (sum-append g (places (r ∷ above) below) (places above rest))
 
   sub-due : (r : Rec) (below : Forest) (above : List Rec) → r .kind ≡ 30 → due (record { self = r; below = below; above = above }) ≡ 0
-  unfolding isName
+  unfolding isTableName
   sub-due r below above e = rw e
 
   sub-lists : (r : Rec) (below : Forest) (above : List Rec) → r .kind ≡ 30
       → lists (record { self = r; below = below; above = above }) ≡ weight (v (r .index)) (gives src below)
-  unfolding isRoot isTop collection entered ownTables
+  unfolding isRoot isTop collection nodeGives ownTables
   sub-lists r below [] e = rw e
   sub-lists r below (a ∷ above) e = rw e
 
@@ -305,7 +305,7 @@ module _ (src : List ℕ) (v : ℕ → ℕ → ℕ) where
         (omega (arith, ib′, ir, sum-node due (b ∷ more) r below rest, sum-node lists (b ∷ more) r below rest, sub-due r below (b ∷ more) e, sub-lists r below (b ∷ more) e))
 
     step-on : eqb (r .kind) 30 ≡ false → Balance b more (node r below rest)
-    unfolding isName reached
+    unfolding isTableName reached
     step-on e =
         let ib′ = rw (hits-on r (b ∷ more) (clear (b ∷ more)) e refl, clear-on r (b ∷ more) e, near-on r b more e) at ib in
         rw (collected-on src (v (nearest (b ∷ more))) r below rest e)
@@ -316,7 +316,7 @@ module _ (src : List ℕ) (v : ℕ → ℕ → ℕ) where
           sum-node due (b ∷ more) r below rest,
           sum-node lists (b ∷ more) r below rest,
           on-lists r below b more e,
-          level-out (eqb (r .kind) 14) (fromOrJoin (r .kind)) (passes (r .kind)) (eqb (r .kind) 33 && named below) (clear (b ∷ more))
+          level-out (eqb (r .kind) 14) (fromOrJoin (r .kind)) (passes (r .kind)) (eqb (r .kind) 33 && hasOneOrTwo below) (clear (b ∷ more))
               (hits (b ∷ more)) (v (nearest (b ∷ more)) (r .index)) (reached (v (nearest (b ∷ more))) below) (weight (v (nearest (b ∷ more))) (gives src below))
               (reached (v (nearest (b ∷ more))) rest) (weight (v (nearest (b ∷ more))) (gives src rest)),
         ))
@@ -331,7 +331,7 @@ module _ (src : List ℕ) (v : ℕ → ℕ → ℕ) where
 
   top-due : (r : Rec) (below : Forest) → due (record { self = r; below = below; above = [] }) ≡ 0
   unfolding hits
-  top-due r below = go (isName (record { self = r; below = below; above = [] }))
+  top-due r below = go (isTableName (record { self = r; below = below; above = [] }))
     where
       go : (t : Bool) → cond t (0 * v (nearest []) (r .index)) 0 ≡ 0
       go true = omega arith

@@ -15,7 +15,7 @@ use Rattle.table.specs.Forest.{Forest, nil, node, kids}
 use Rattle.table.specs.Places.{Place, places, nodesOf, sum, Numbered}
 use Rattle.table.proofs.Places.{numbered}
 use Rattle.tables.specs.declared.pending.TableRef.{TableRef}
-use Rattle.roots.specs.Reach.{isRoot, isName, refs, rootIs, reaches, times, Exact}
+use Rattle.roots.specs.Reach.{isRoot, isTableName, refs, rootIs, reaches, times, Exact}
 use Rattle.roots.proofs.Counts.{hits, reaches-hits, nearest, weight, due, lists, balanced}
 
 -- ---- sums of which few terms are left
@@ -98,13 +98,13 @@ module _ (src : List ℕ) where
   due-far : (n x : ℕ) (p : Place) → (p .self .index ≡ x → ⊥) → due src (only n x) p ≡ 0
   due-far n x p h =
       let z : hits (p .above) * only n x (nearest (p .above)) (p .self .index) ≡ 0 = rw (only-name n x (nearest (p .above)) (p .self .index) h) (omega arith) in
-      rw z (same-branch (isName p))
+      rw z (same-branch (isTableName p))
 
   times-test : (h : ℕ) (t : Bool) → h * cond t 1 0 ≡ cond t h 0
   times-test h true = omega arith
   times-test h false = omega arith
 
-  due-here : (n : ℕ) (p : Place) → isName p ≡ true → due src (only n (p .self .index)) p ≡ cond (rootIs n (p .above)) (reaches p) 0
+  due-here : (n : ℕ) (p : Place) → isTableName p ≡ true → due src (only n (p .self .index)) p ≡ cond (rootIs n (p .above)) (reaches p) 0
   unfolding hits rootIs
   due-here n p e = rw (e, reaches-hits (p .above), eq-eqb (p .self .index) (p .self .index) refl, and-true) (go (p .above))
     where
@@ -112,10 +112,10 @@ module _ (src : List ℕ) where
       go [] = omega arith
       go (a ∷ more) = rw (near-is n a more) (times-test (hits (a ∷ more)) (eqb (nearest (a ∷ more)) n))
 
-  due-none : (n x : ℕ) (p : Place) → (isName p ≡ true → p .self .index ≡ x → ⊥) → due src (only n x) p ≡ 0
-  due-none n x p h = go (isName p) refl
+  due-none : (n x : ℕ) (p : Place) → (isTableName p ≡ true → p .self .index ≡ x → ⊥) → due src (only n x) p ≡ 0
+  due-none n x p h = go (isTableName p) refl
     where
-      go : (t : Bool) → isName p ≡ t → due src (only n x) p ≡ 0
+      go : (t : Bool) → isTableName p ≡ t → due src (only n x) p ≡ 0
       go true e = due-far n x p (h e)
       go false e = rw e
 
@@ -129,7 +129,7 @@ module _ (src : List ℕ) where
   total-lists : (p : Place) → cond (isRoot p) (length (refs src p)) 0 ≡ lists src (λ m y. 1) p
   total-lists p = rw (length-sum (refs src p))
 
-  total-due : (p : Place) → due src (λ m y. 1) p ≡ cond (isName p) (reaches p) 0
+  total-due : (p : Place) → due src (λ m y. 1) p ≡ cond (isTableName p) (reaches p) 0
   total-due p = rw (reaches-hits (p .above), mul-one (hits (p .above)))
 
   module _ (r : Rec) (below : Forest) (numbered : Numbered (places [] (node r below nil))) where

@@ -16,7 +16,7 @@ use Rattle.table.specs.Lists.{listed, lent}
 use Rattle.table.specs.Places.{Place, nodesOf, sum}
 use Rattle.tables.specs.Tables.{referenceBytes, referenceRow}
 use Rattle.scope.specs.Scope.{tableRefs}
-use Rattle.roots.specs.Reach.{isRoot, isName, rootIs, reaches}
+use Rattle.roots.specs.Reach.{isRoot, isTableName, rootIs, reaches}
 
 -- ---- all roots' lists
 
@@ -49,14 +49,14 @@ shown s root = recordsIn (s .entries (root .self .index)) (s .bytes (root .self 
 -- what is then true of the replies and the bytes
 pub record AllRoots (src t : List ℕ) (s : Served src t) : Type 0 where
   -- a table name of one or two parts appears only under its nearest root above, once for each FROM or JOIN that reaches it
-  pub names : (root p : Place) → List·Memᴰ root (nodesOf t) → isRoot root ≡ true → List·Memᴰ p (nodesOf t) → isName p ≡ true
+  pub names : (root p : Place) → List·Memᴰ root (nodesOf t) → isRoot root ≡ true → List·Memᴰ p (nodesOf t) → isTableName p ≡ true
       → timesIn (p .self .index) (shown s root) ≡ cond (rootIs (root .self .index) (p .above)) (reaches p) 0
   -- nothing else appears
   pub others : (root : Place) (x : ℕ) → List·Memᴰ root (nodesOf t) → isRoot root ≡ true
-      → ((p : Place) → List·Memᴰ p (nodesOf t) → isName p ≡ true → p .self .index ≡ x → ⊥) → timesIn x (shown s root) ≡ 0
+      → ((p : Place) → List·Memᴰ p (nodesOf t) → isTableName p ≡ true → p .self .index ≡ x → ⊥) → timesIn x (shown s root) ≡ 0
   -- so the lists' total is that count summed over the tree
   pub total : sum (λ (root : Place). cond (isRoot root) (s .entries (root .self .index)) 0) (nodesOf t)
-      ≡ sum (λ (p : Place). cond (isName p) (reaches p) 0) (nodesOf t)
+      ≡ sum (λ (p : Place). cond (isTableName p) (reaches p) 0) (nodesOf t)
 
 -- ---- what stands below another root
 

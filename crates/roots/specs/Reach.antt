@@ -32,12 +32,12 @@ oneOrTwo (t ∷ []) = true
 oneOrTwo (d ∷ t ∷ []) = true
 oneOrTwo (d ∷ t ∷ u ∷ more) = false
 
-abbrev pub named : Forest → Bool
-named below = oneOrTwo (direct isPart below)
+abbrev pub hasOneOrTwo : Forest → Bool
+hasOneOrTwo below = oneOrTwo (direct isPart below)
 
 -- a table name node of one or two parts
-unfoldable pub isName : Place → Bool
-isName p = eqb (p .self .kind) tableIdentifier && named (p .below)
+unfoldable pub isTableName : Place → Bool
+isTableName p = eqb (p .self .kind) tableIdentifier && hasOneOrTwo (p .below)
 
 -- is record n the nearest root: the first of kind 30, or the last
 unfoldable pub rootIs : ℕ → List Rec → Bool
@@ -95,11 +95,11 @@ times x = sum (λ (e : TableRef). cond (eqb (e .«record») x) 1 0)
 
 pub record Exact (src : List ℕ) (ps : List Place) : Type 0 where
   -- in a root's list a name stands as often as it is reached if the root is its nearest, else not at all
-  pub names : (root p : Place) → List·Memᴰ root ps → isRoot root ≡ true → List·Memᴰ p ps → isName p ≡ true
+  pub names : (root p : Place) → List·Memᴰ root ps → isRoot root ≡ true → List·Memᴰ p ps → isTableName p ≡ true
       → times (p .self .index) (refs src root) ≡ cond (rootIs (root .self .index) (p .above)) (reaches p) 0
   -- nothing else stands there
   pub others : (root : Place) (x : ℕ) → List·Memᴰ root ps → isRoot root ≡ true
-      → ((p : Place) → List·Memᴰ p ps → isName p ≡ true → p .self .index ≡ x → ⊥) → times x (refs src root) ≡ 0
+      → ((p : Place) → List·Memᴰ p ps → isTableName p ≡ true → p .self .index ≡ x → ⊥) → times x (refs src root) ≡ 0
   -- all roots' lists together are as long as the names are reached
   pub total : sum (λ (root : Place). cond (isRoot root) (length (refs src root)) 0) ps
-      ≡ sum (λ (p : Place). cond (isName p) (reaches p) 0) ps
+      ≡ sum (λ (p : Place). cond (isTableName p) (reaches p) 0) ps

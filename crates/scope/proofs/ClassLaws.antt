@@ -18,7 +18,7 @@ use Rattle.table.proofs.Visits.{rest-kind}
 use Rattle.table.proofs.Writes.{written-none, written-one}
 use Rattle.scope.specs.declared.semantic_tokens.TokenClass.the-variants.{Keyword, Function, StringLiteral, Number, Comment, Operator, Variable, TypeName, Parameter, Property, Unclassed}
 use Rattle.scope.specs.declared.semantic_tokens.TokenClass.{TokenClass}
-use Rattle.scope.specs.Classes.{between, judged, bareword, byParent, classOf, numberOf, entryOf, row, classes}
+use Rattle.scope.specs.Classes.{between, judged, bareword, byParent, classOf, numberOf, entryOf, classRow, classes}
 
 pub inside : (a b k : ℕ) → a ≤ k → k ≤ b → between a b k ≡ true
 unfolding between
@@ -151,13 +151,13 @@ module _ (source : List ℕ) (p k a b : ℕ) where
 
 -- ---- its entry
 module _ (c : TokenClass) (a b : ℕ) {n : ℕ} (e : n ≡ numberOf c) (out : List ℕ) (at : ℕ) where
-  pub class-none : n ≡ 10 → Written row (entryOf c a b) out at out at
+  pub class-none : n ≡ 10 → Written classRow (entryOf c a b) out at out at
   unfolding entryOf numberOf
-  class-none h = rw (eq-eqb (numberOf c) 10 (sym e ∙ h)) (written-none row out at)
+  class-none h = rw (eq-eqb (numberOf c) 10 (sym e ∙ h)) (written-none classRow out at)
 
-  pub class-some : {out′ : List ℕ} {at′ : ℕ} → (n ≡ 10 → ⊥) → out′ ≡ put out at (a ∷ b ∷ n ∷ []) → at′ ≡ at + numberBytes * 3 → Written row (entryOf c a b) out at out′ at′
+  pub class-some : {out′ : List ℕ} {at′ : ℕ} → (n ≡ 10 → ⊥) → out′ ≡ put out at (a ∷ b ∷ n ∷ []) → at′ ≡ at + numberBytes * 3 → Written classRow (entryOf c a b) out at out′ at′
   unfolding entryOf numberOf
-  class-some h q r = rw (ne-eqb (numberOf c) 10 (λ z. h (e ∙ z))) (written-one row (record { start = a; end = b; class = numberOf c }) out at (rw e at q) r)
+  class-some h q r = rw (ne-eqb (numberOf c) 10 (λ z. h (e ∙ z))) (written-one classRow (record { start = a; end = b; class = numberOf c }) out at (rw e at q) r)
 
 -- ---- what a turn of the walk adds
 pub class-nil : (source : List ℕ) (p : ℕ) → classes source p nil ≡ []

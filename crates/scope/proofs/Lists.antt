@@ -25,18 +25,18 @@ use Rattle.tables.specs.declared.pending.Pending.the-variants.{Nothing, Held}
 use Rattle.scope.specs.declared.collection.Asked.{Asked}
 use Rattle.scope.specs.declared.collection.Asked.the-variants.{WithNames, TableAliases, ColumnAliases, TableRefs}
 use Rattle.names.specs.Names.{isPart, direct, aliasIn}
-use Rattle.scope.specs.Collection.{entered, collected, collection, ownWith, ownColumns, ownTables, collectionOf}
-use Rattle.tables.specs.Tables.{fresh, aliased, Listing, handOn, listAlias, reading, references, aliases, referenceRow}
+use Rattle.scope.specs.Collection.{nodeGives, collected, collection, ownWith, ownColumns, ownTables, collectionOf}
+use Rattle.tables.specs.Tables.{fresh, aliased, Listing, handOn, listAlias, tableReading, references, aliases, referenceRow}
 use Rattle.names.specs.Bindings.{bindingRow}
 use Rattle.scope.specs.Scope.{withNames, tableAliases, columnAliases, tableRefs}
-use Rattle.tables.specs.inner.Rows.{same, rowsOf}
+use Rattle.tables.specs.inner.Rows.{asRow, rowsOf}
 use Rattle.scope.specs.inner.Rows.{ownRows, rowsAt, width}
 
 -- ---- entry by entry: a collection of mapped entries is the mapped collection, and so is a table reading
 
 module _ {E F : Type 0} (row : E → F) (own : ℕ → Forest → List E) (own′ : ℕ → Forest → List F) (e : (k : ℕ) (f : Forest) → own′ k f ≡ map row (own k f)) where
-  entered-map : (k : ℕ) (below : Forest) (xs : List E) → entered own′ k below (map row xs) ≡ map row (entered own k below xs)
-  unfolding entered
+  entered-map : (k : ℕ) (below : Forest) (xs : List E) → nodeGives own′ k below (map row xs) ≡ map row (nodeGives own k below xs)
+  unfolding nodeGives
   entered-map k below xs = rw e (go (eqb k withClause))
     where
       go : (b : Bool) → map row (own k below) ++ cond b [] (map row xs) ≡ map row (own k below ++ cond b [] xs)
@@ -49,7 +49,7 @@ module _ {E F : Type 0} (row : E → F) (own : ℕ → Forest → List E) (own�
   collected-map (token r rest) = collected-map rest
   collected-map (node r below rest) =
       rw (collected-map below, collected-map rest, entered-map (r .kind) below (collected own below))
-      (go (eqb (r .kind) subqueryExpression) (entered own (r .kind) below (collected own below)))
+      (go (eqb (r .kind) subqueryExpression) (nodeGives own (r .kind) below (collected own below)))
     where
       go : (b : Bool) (xs : List E) → cond b [] (map row xs) ++ map row (collected own rest) ≡ map row (cond b [] xs ++ collected own rest)
       go true xs = refl
@@ -75,8 +75,8 @@ module _ {E F : Type 0} (row : E → F) (L : Listing E) where
   alias-map (Held t) Unnamed = refl
   alias-map (Held t) (Named b) = refl
 
-  reading-map : (src : List ℕ) (p : Pending) (f : Forest) → reading mapped src p f ≡ map row (reading L src p f)
-  unfolding reading
+  reading-map : (src : List ℕ) (p : Pending) (f : Forest) → tableReading mapped src p f ≡ map row (tableReading L src p f)
+  unfolding tableReading
   reading-map src p nil = hand-map p
   reading-map src p (token r rest) = reading-map src p rest
   reading-map src p (node r below rest) = go (eqb (r .kind) tableIdentifier) (eqb (r .kind) tableAlias) (eqb (r .kind) tableExpression) (eqb (r .kind) joinClause) (reading-map src Nothing below) (λ q. reading-map src q rest)
@@ -87,22 +87,22 @@ module _ {E F : Type 0} (row : E → F) (L : Listing E) where
       bound : Bound
       bound = aliasIn src r below
 
-      go : (a b c d : Bool) → reading mapped src Nothing below ≡ map row (reading L src Nothing below)
-          → ((q : Pending) → reading mapped src q rest ≡ map row (reading L src q rest))
-          → cond a (handOn mapped p ++ reading mapped src named rest) (cond b (listAlias mapped p bound ++ reading mapped src (aliased p bound) rest) (cond c (reading mapped src Nothing below ++ reading mapped src p rest) (cond d (handOn mapped p ++ (reading mapped src Nothing below ++ reading mapped src Nothing rest)) (reading mapped src p rest))))
-          ≡ map row (cond a (handOn L p ++ reading L src named rest) (cond b (listAlias L p bound ++ reading L src (aliased p bound) rest) (cond c (reading L src Nothing below ++ reading L src p rest) (cond d (handOn L p ++ (reading L src Nothing below ++ reading L src Nothing rest)) (reading L src p rest)))))
-      go true b c d i o = rw (hand-map p, o named) (sym (map-append row (handOn L p) (reading L src named rest)))
-      go false true c d i o = rw (alias-map p bound, o (aliased p bound)) (sym (map-append row (listAlias L p bound) (reading L src (aliased p bound) rest)))
-      go false false true d i o = rw (i, o p) (sym (map-append row (reading L src Nothing below) (reading L src p rest)))
+      go : (a b c d : Bool) → tableReading mapped src Nothing below ≡ map row (tableReading L src Nothing below)
+          → ((q : Pending) → tableReading mapped src q rest ≡ map row (tableReading L src q rest))
+          → cond a (handOn mapped p ++ tableReading mapped src named rest) (cond b (listAlias mapped p bound ++ tableReading mapped src (aliased p bound) rest) (cond c (tableReading mapped src Nothing below ++ tableReading mapped src p rest) (cond d (handOn mapped p ++ (tableReading mapped src Nothing below ++ tableReading mapped src Nothing rest)) (tableReading mapped src p rest))))
+          ≡ map row (cond a (handOn L p ++ tableReading L src named rest) (cond b (listAlias L p bound ++ tableReading L src (aliased p bound) rest) (cond c (tableReading L src Nothing below ++ tableReading L src p rest) (cond d (handOn L p ++ (tableReading L src Nothing below ++ tableReading L src Nothing rest)) (tableReading L src p rest)))))
+      go true b c d i o = rw (hand-map p, o named) (sym (map-append row (handOn L p) (tableReading L src named rest)))
+      go false true c d i o = rw (alias-map p bound, o (aliased p bound)) (sym (map-append row (listAlias L p bound) (tableReading L src (aliased p bound) rest)))
+      go false false true d i o = rw (i, o p) (sym (map-append row (tableReading L src Nothing below) (tableReading L src p rest)))
       go false false false true i o =
-          rw (hand-map p, i, o Nothing, map-append row (handOn L p) (reading L src Nothing below ++ reading L src Nothing rest), map-append row (reading L src Nothing below) (reading L src Nothing rest))
+          rw (hand-map p, i, o Nothing, map-append row (handOn L p) (tableReading L src Nothing below ++ tableReading L src Nothing rest), map-append row (tableReading L src Nothing below) (tableReading L src Nothing rest))
       go false false false false i o = o p
 
   tables-map : (src : List ℕ) (k : ℕ) (f : Forest) → ownTables mapped src k f ≡ map row (ownTables L src k f)
   unfolding ownTables
   tables-map src k f = rw (reading-map src Nothing f) (go (eqb k fromClause || eqb k joinClause))
     where
-      go : (b : Bool) → cond b (map row (reading L src Nothing f)) [] ≡ map row (cond b (reading L src Nothing f) [])
+      go : (b : Bool) → cond b (map row (tableReading L src Nothing f)) [] ≡ map row (cond b (tableReading L src Nothing f) [])
       go true = refl
       go false = refl
 
@@ -123,10 +123,10 @@ module _ (src t : List ℕ) (i : ℕ) where
 
 -- rows that are a list of entries of w bytes
 wide-rows : {E : Type 0} (row : E → List ℕ) (w : ℕ) → ((e : E) → numberBytes * length (row e) ≡ w) → (es : List E) {rs : List (List ℕ)} → rs ≡ map row es
-    → length (listBytes same rs) ≡ length rs * w
+    → length (listBytes asRow rs) ≡ length rs * w
 wide-rows row w h es q = rw (q, bytes-map row es, length-map es row) (length-wide row w h es)
 
-wide-at : (asked : Asked) (src t : List ℕ) (i : ℕ) → length (listBytes same (rowsAt asked src t i)) ≡ length (rowsAt asked src t i) * width asked
+wide-at : (asked : Asked) (src t : List ℕ) (i : ℕ) → length (listBytes asRow (rowsAt asked src t i)) ≡ length (rowsAt asked src t i) * width asked
 unfolding width
 wide-at WithNames src t i = wide-rows bindingRow 24 (λ e. refl) (withNames src t i) (with-rows src t i)
 wide-at TableAliases src t i = wide-rows bindingRow 24 (λ e. refl) (tableAliases src t i) (alias-rows src t i)
@@ -155,17 +155,17 @@ module _ (t : List ℕ) (n i : ℕ) {v : Verdict} (e : v ≡ rootVerdict t n i) 
   root-some q = root-known t n i (sym q ∙ e)
 
 module _ (asked : Asked) (src t : List ℕ) (i : ℕ) (rs : List Rule) (out : List ℕ) {s e l : List ℕ} {m n : ℕ} (q : s ≡ part t i (stretchEnd t i)) (ok : Admitted ≡ first rs)
-    (c : Written same (collectionOf (ownRows asked src) i s) e 0 l m) (z : length l ≡ 0) (d : n ≡ m / width asked) where
-  pub rows-written : {out′ : List ℕ} {m′ : ℕ} → Written same (collectionOf (ownRows asked src) i s) (l ++ out) 0 out′ m′ → m ≤ length (l ++ out)
-      → (Entries n ≡ listed rs same (rowsAt asked src t i) out) × (out′ ≡ lent rs same (rowsAt asked src t i) out)
+    (c : Written asRow (collectionOf (ownRows asked src) i s) e 0 l m) (z : length l ≡ 0) (d : n ≡ m / width asked) where
+  pub rows-written : {out′ : List ℕ} {m′ : ℕ} → Written asRow (collectionOf (ownRows asked src) i s) (l ++ out) 0 out′ m′ → m ≤ length (l ++ out)
+      → (Entries n ≡ listed rs asRow (rowsAt asked src t i) out) × (out′ ≡ lent rs asRow (rowsAt asked src t i) out)
   rows-written c′ h =
-      rw d (sized-written same (width asked) (rowsAt asked src t i) (wide-at asked src t i) (wide-some asked) rs out ok (rw q at c) z (rw q at c′) h)
+      rw d (sized-written asRow (width asked) (rowsAt asked src t i) (wide-at asked src t i) (wide-some asked) rs out ok (rw q at c) z (rw q at c′) h)
 
   pub rows-denied : length (l ++ out) < m
-      → (Denied 7 n ≡ listed rs same (rowsAt asked src t i) out) × (l ++ out ≡ lent rs same (rowsAt asked src t i) out)
-  rows-denied h = rw d (sized-denied same (width asked) (rowsAt asked src t i) (wide-at asked src t i) (wide-some asked) rs out ok (rw q at c) z h)
+      → (Denied 7 n ≡ listed rs asRow (rowsAt asked src t i) out) × (l ++ out ≡ lent rs asRow (rowsAt asked src t i) out)
+  rows-denied h = rw d (sized-denied asRow (width asked) (rowsAt asked src t i) (wide-at asked src t i) (wide-some asked) rs out ok (rw q at c) z h)
 
 -- the answer in rows is the answer in entries
 pub question : {E : Type 0} (row : E → List ℕ) (es : List E) {ls : List (List ℕ)} (rs : List Rule) (out : List ℕ) {r : Listed} {out′ : List ℕ} → ls ≡ map row es
-    → (r ≡ listed rs same ls out) × (out′ ≡ lent rs same ls out) → (r ≡ listed rs row es out) × (out′ ≡ lent rs row es out)
+    → (r ≡ listed rs asRow ls out) × (out′ ≡ lent rs asRow ls out) → (r ≡ listed rs row es out) × (out′ ≡ lent rs row es out)
 question row es rs out q a = (a .0 ∙ rw q (listed-map row rs es out), a .1 ∙ rw q (lent-map row rs es out))

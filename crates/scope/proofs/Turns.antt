@@ -15,8 +15,8 @@ use Rattle.tables.specs.declared.pending.Pending.the-variants.{Nothing}
 use Rattle.tables.specs.declared.tables.Reads.the-variants.{Aliases, References}
 use Rattle.scope.specs.declared.collection.Asked.the-variants.{WithNames, TableAliases, ColumnAliases, TableRefs}
 use Rattle.names.specs.Bindings.{withItems, selectAliases, bindingRow}
-use Rattle.scope.specs.Collection.{entered, collected, collection, ownWith, ownColumns, ownTables, collectionOf}
-use Rattle.tables.specs.Tables.{Listing, reading}
+use Rattle.scope.specs.Collection.{nodeGives, collected, collection, ownWith, ownColumns, ownTables, collectionOf}
+use Rattle.tables.specs.Tables.{Listing, tableReading}
 use Rattle.tables.specs.inner.Rows.{rowsOf}
 use Rattle.scope.specs.inner.Rows.{ownRows}
 use Rattle.table.proofs.Fields.{kind-of, kind-yes, kind-no}
@@ -26,13 +26,13 @@ use Rattle.table.proofs.Fields.{kind-of, kind-yes, kind-no}
 module _ {E : Type 0} (own : ℕ → Forest → List E) where
   -- a With is its own part, and any other node goes on with its children
   pub collection-with : (s : List ℕ) (base : ℕ) {k : ℕ} → k ≡ kindAt s 0 → k ≡ withClause → collectionOf own base s ≡ own (kindAt s 0) (kids (records base s))
-  unfolding collection entered
+  unfolding collection nodeGives
   collection-with s base e w =
       rw (kind-of s base 0, eq-eqb (kindAt s 0) withClause (sym e ∙ w)) (append-nil (own (kindAt s 0) (kids (records base s))))
 
   pub collection-on : (s : List ℕ) (base : ℕ) {k : ℕ} → k ≡ kindAt s 0 → (k ≡ withClause → ⊥)
       → collectionOf own base s ≡ own (kindAt s 0) (kids (records base s)) ++ collected own (kids (records base s))
-  unfolding collection entered
+  unfolding collection nodeGives
   collection-on s base e w = rw (kind-of s base 0, ne-eqb (kindAt s 0) withClause (λ x. w (e ∙ x)))
 
   pub collected-none : collected own nil ≡ []
@@ -97,7 +97,7 @@ module _ (src : List ℕ) (k : ℕ) (f : Forest) where
   unfolding ownRows
   references-are = refl
 
-  pub tables-yes : {E : Type 0} (L : Listing E) → (eqb k fromClause || eqb k joinClause) ≡ true → ownTables L src k f ≡ reading L src Nothing f
+  pub tables-yes : {E : Type 0} (L : Listing E) → (eqb k fromClause || eqb k joinClause) ≡ true → ownTables L src k f ≡ tableReading L src Nothing f
   unfolding ownTables
   tables-yes L e = rw e
 

@@ -1,6 +1,6 @@
 -- Token classes: document 01's section of that name.
 -- Definitions only.
-use Prim.Native.Nat.{ℕ}
+use Prim.Native.Nat.{ℕ, _*_}
 use mathlib.Core.Bool.{Bool, cond, not, _&&_, _||_}
 use mathlib.Core.List.{List, [], _∷_, _++_}
 use lib.Dec.{leb, eqb}
@@ -12,6 +12,7 @@ use Rattle.scope.specs.declared.semantic_tokens.TokenClass.{TokenClass}
 use Rattle.scope.specs.declared.semantic_tokens.TokenClass.the-variants.{Keyword, Function, StringLiteral, Number, Comment, Operator, Variable, TypeName, Parameter, Property, Unclassed}
 use Rattle.scope.specs.declared.semantic_tokens.ClassedToken.{ClassedToken}
 use Rattle.keywords.specs.Keywords.{isKeyword}
+use Rattle.table.specs.Lists.{numberBytes}
 
 -- a kind from a to b
 unfoldable pub between : ℕ → ℕ → ℕ → Bool
@@ -90,12 +91,12 @@ unfoldable pub entryOf : TokenClass → ℕ → ℕ → List ClassedToken
 entryOf c start end = cond (eqb (numberOf c) (numberOf Unclassed)) [] (record { start = start; end = end; class = numberOf c } ∷ [])
 
 -- the numbers of an entry: start, end, class
-abbrev pub row : ClassedToken → List ℕ
-row e = e .start ∷ e .end ∷ e .class ∷ []
+abbrev pub classRow : ClassedToken → List ℕ
+classRow e = e .start ∷ e .end ∷ e .class ∷ []
 
 -- how many bytes an entry takes
 abbrev pub entryBytes : ℕ
-entryBytes = 12
+entryBytes = 3 * numberBytes
 
 -- every classed token among siblings and below them, in order, where p is the kind of the siblings' parent
 unfoldable pub classes : List ℕ → ℕ → Forest → List ClassedToken

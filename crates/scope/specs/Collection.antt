@@ -11,26 +11,26 @@ use Rattle.table.specs.Forest.{Forest, nil, token, node, kids}
 use Rattle.names.specs.declared.names.NameBinding.{NameBinding}
 use Rattle.tables.specs.declared.pending.Pending.the-variants.{Nothing}
 use Rattle.names.specs.Bindings.{withItems, selectAliases}
-use Rattle.tables.specs.Tables.{Listing, reading}
+use Rattle.tables.specs.Tables.{Listing, tableReading}
 use Rattle.table.specs.Table.{recordAt, records}
 
 -- ---- collection, of a list whose entries a node of kind k with these children gives as its own part: `own k below`
 
 -- a node's own part, and then what its children give; With isn't entered further
-unfoldable pub entered : {E : Type 0} → (ℕ → Forest → List E) → ℕ → Forest → List E → List E
-entered own k below inner = own k below ++ cond (eqb k withClause) [] inner
+unfoldable pub nodeGives : {E : Type 0} → (ℕ → Forest → List E) → ℕ → Forest → List E → List E
+nodeGives own k below inner = own k below ++ cond (eqb k withClause) [] inner
 
 -- the children's collections, child subqueries left unvisited
 unfoldable pub collected : {E : Type 0} → (ℕ → Forest → List E) → Forest → List E
 collected own nil = []
 collected own (token r rest) = collected own rest
 collected {E} own (node r below rest) =
-    let visited : List E = entered own (r .kind) below (collected own below) in
+    let visited : List E = nodeGives own (r .kind) below (collected own below) in
     cond (eqb (r .kind) subqueryExpression) [] visited ++ collected own rest
 
 -- the collection of the node r with these children
 unfoldable pub collection : {E : Type 0} → (ℕ → Forest → List E) → Rec → Forest → List E
-collection own r below = entered own (r .kind) below (collected own below)
+collection own r below = nodeGives own (r .kind) below (collected own below)
 
 -- ---- a node's own part of each list, by its kind
 
@@ -44,7 +44,7 @@ ownColumns src k below = cond (eqb k selectClause) (selectAliases src below) []
 
 -- From and Join run the table reading
 unfoldable pub ownTables : {E : Type 0} → Listing E → List ℕ → ℕ → Forest → List E
-ownTables L src k below = cond (eqb k fromClause || eqb k joinClause) (reading L src Nothing below) []
+ownTables L src k below = cond (eqb k fromClause || eqb k joinClause) (tableReading L src Nothing below) []
 
 -- the collection of the first record of the stretch s, whose number is base
 abbrev pub collectionOf : {E : Type 0} → (ℕ → Forest → List E) → ℕ → List ℕ → List E

@@ -23,8 +23,8 @@ ghost use Rattle.table.specs.Forest.{kids};
 ghost use Rattle.table.specs.Rules.{mostRecords};
 ghost use Rattle.table.specs.Lists.{farthest, Written};
 ghost use Rattle.scope.specs.Collection.{ownTables, collectionOf};
-ghost use Rattle.tables.specs.inner.Rows.{same, rowsOf, readBytes};
-ghost use Rattle.scope.specs.inner.Rows.{ownRows, mostBytes};
+ghost use Rattle.tables.specs.inner.Rows.{asRow, rowsOf, readBytes};
+ghost use Rattle.scope.specs.inner.Rows.{ownRows, ownBytes};
 
 // The list that is asked for.
 pub enum Asked {
@@ -44,7 +44,8 @@ fn own_tables(
     at: usize,
 ) -> usize
     requires { ⌜ (0 < count (now s)) × (base + count (now s) ≤ mostRecords) × (at + readBytes * count (now s) < farthest) ⌝ }
-    ensures { λ r. ⌜ Written same (ownTables (rowsOf reads) (now (source .entry)) (kindAt (now (s .entry)) 0) (kids (records base (now (s .entry))))) (now (out .entry)) at (now (out .exit)) r
+    ensures { λ r. ⌜ Written asRow (ownTables (rowsOf reads) (now (source .entry)) (kindAt (now (s .entry)) 0)
+        (kids (records base (now (s .entry))))) (now (out .entry)) at (now (out .exit)) r
         × (r ≤ at + readBytes * count (now (s .entry))) ⌝ }
 {
     let kind = kind_at(s, 0);
@@ -58,7 +59,8 @@ fn own_tables(
 // The own part of a node, the first record of the stretch s, in the list that is asked for.
 fn own_part(asked: Asked, s: &[u8], base: usize, source: &[u8], out: &mut [u8], at: usize) -> usize
     requires { ⌜ (0 < count (now s)) × (base + count (now s) ≤ mostRecords) × (at + readBytes * count (now s) < farthest) ⌝ }
-    ensures { λ r. ⌜ Written same (ownRows asked (now (source .entry)) (kindAt (now (s .entry)) 0) (kids (records base (now (s .entry))))) (now (out .entry)) at (now (out .exit)) r
+    ensures { λ r. ⌜ Written asRow (ownRows asked (now (source .entry)) (kindAt (now (s .entry)) 0) (kids (records base (now (s .entry)))))
+        (now (out .entry)) at (now (out .exit)) r
         × (r ≤ at + readBytes * count (now (s .entry))) ⌝ }
 {
     let kind = kind_at(s, 0);
@@ -99,9 +101,9 @@ pub fn collect_scope(
     out: &mut [u8],
     at: usize,
 ) -> usize
-    requires { ⌜ (0 < count (now s)) × (base + count (now s) ≤ mostRecords) × (at + mostBytes * count (now s) < farthest) ⌝ }
-    ensures { λ r. ⌜ Written same (collectionOf (ownRows asked (now (source .entry))) base (now (s .entry))) (now (out .entry)) at (now (out .exit)) r
-        × (r ≤ at + mostBytes * count (now (s .entry))) ⌝ }
+    requires { ⌜ (0 < count (now s)) × (base + count (now s) ≤ mostRecords) × (at + ownBytes * count (now s) < farthest) ⌝ }
+    ensures { λ r. ⌜ Written asRow (collectionOf (ownRows asked (now (source .entry))) base (now (s .entry))) (now (out .entry)) at (now (out .exit)) r
+        × (r ≤ at + ownBytes * count (now (s .entry))) ⌝ }
 {
     let m = count_of(s);
     let mut next = own_part(asked, s, base, source, out, at);

@@ -2,21 +2,24 @@
 use crate::collection::Asked;
 use crate::collection::collect_scope;
 use names::bindings::BINDING_BYTES;
+use table::check::NO_ROOM;
 use table::check::Verdict;
 use table::check::check_root;
 use table::list::Listed;
 use table::stretch::stretch_of;
 use tables::pending::REFERENCE_BYTES;
 ghost use mathlib.Core.Path.{_≡_};
-ghost use Prim.Native.Nat.{_/_, _≤_};
+ghost use Prim.Native.Nat.{_/_, _≤_, _<_};
 ghost use lib.ListN.{length};
-ghost use Rattle.table.specs.Rules.{rootRules};
-ghost use Rattle.table.specs.Lists.{listed, lent};
+ghost use Rattle.table.specs.Rules.{rootRules, mostRecords};
+ghost use Rattle.table.specs.Lists.{Answers};
 ghost use Rattle.tables.specs.Tables.{referenceRow};
 ghost use Rattle.names.specs.Bindings.{bindingRow};
 ghost use Rattle.scope.specs.Scope.{withNames, tableAliases, columnAliases, tableRefs};
-ghost use Rattle.tables.specs.inner.Rows.{same};
+ghost use Rattle.tables.specs.inner.Rows.{asRow};
 ghost use Rattle.scope.specs.inner.Rows.{rowsAt, width};
+ghost use Rattle.table.specs.Table.{count};
+ghost use mathlib.Core.List.{[]};
 
 // How many entries of a list have this many bytes.
 fn entries_of(asked: Asked, size: usize) -> usize
@@ -30,55 +33,61 @@ fn entries_of(asked: Asked, size: usize) -> usize
     }
 }
 
-// One list of a root: counted on an empty part of the buffer, and written if it has room.
+// One list of a root of a table that is admitted: counted on an empty part of the buffer, and written if it has room.
+pub fn list_in(asked: Asked, table: &[u8], source: &[u8], root: usize, out: &mut [u8]) -> Listed
+    requires { ⌜ (root < count (now table)) × (count (now table) ≤ mostRecords) ⌝ }
+    ensures { λ r. ⌜ Answers [] asRow
+        (rowsAt asked (now (source .entry)) (now (table .entry)) root) (now (out .entry)) r (now (out .exit)) ⌝ }
+{
+    let s = stretch_of(table, root);
+    let size = collect_scope(asked, s, root, source, &mut out[..0], 0);
+    let entries = entries_of(asked, size) as u32;
+    if size <= out.len() {
+        collect_scope(asked, s, root, source, out, 0);
+        return Listed::Entries(entries);
+    }
+    Listed::Refused(NO_ROOM, entries)
+}
+
+// One list of a named root: the check, and then the list.
 fn list_of(asked: Asked, table: &[u8], source: &[u8], root: usize, out: &mut [u8]) -> Listed
-    ensures { λ r. ⌜ (r ≡ listed (rootRules (now (table .entry)) (length (now (source .entry))) root) same (rowsAt asked (now (source .entry)) (now (table .entry)) root) (now (out .entry)))
-        × (now (out .exit) ≡ lent (rootRules (now (table .entry)) (length (now (source .entry))) root) same (rowsAt asked (now (source .entry)) (now (table .entry)) root) (now (out .entry))) ⌝ }
+    ensures { λ r. ⌜ Answers (rootRules (now (table .entry)) (length (now (source .entry))) root) asRow
+        (rowsAt asked (now (source .entry)) (now (table .entry)) root) (now (out .entry)) r (now (out .exit)) ⌝ }
 {
     match check_root(table, source, root) {
         Verdict::Refused(k, d) => Listed::Refused(k, d),
-        Verdict::Admitted => {
-            let s = stretch_of(table, root);
-            let size = collect_scope(asked, s, root, source, &mut out[..0], 0);
-            let entries = entries_of(asked, size) as u32;
-            if size <= out.len() {
-                collect_scope(asked, s, root, source, out, 0);
-                Listed::Entries(entries)
-            } else {
-                Listed::Refused(7, entries)
-            }
-        }
+        Verdict::Admitted => list_in(asked, table, source, root, out),
     }
 }
 
 // The WITH names of a root.
 pub fn with_names(table: &[u8], source: &[u8], root: usize, out: &mut [u8]) -> Listed
-    ensures { λ r. ⌜ (r ≡ listed (rootRules (now (table .entry)) (length (now (source .entry))) root) bindingRow (withNames (now (source .entry)) (now (table .entry)) root) (now (out .entry)))
-        × (now (out .exit) ≡ lent (rootRules (now (table .entry)) (length (now (source .entry))) root) bindingRow (withNames (now (source .entry)) (now (table .entry)) root) (now (out .entry))) ⌝ }
+    ensures { λ r. ⌜ Answers (rootRules (now (table .entry)) (length (now (source .entry))) root) bindingRow
+        (withNames (now (source .entry)) (now (table .entry)) root) (now (out .entry)) r (now (out .exit)) ⌝ }
 {
     list_of(Asked::WithNames, table, source, root, out)
 }
 
 // The table aliases of a root.
 pub fn table_aliases(table: &[u8], source: &[u8], root: usize, out: &mut [u8]) -> Listed
-    ensures { λ r. ⌜ (r ≡ listed (rootRules (now (table .entry)) (length (now (source .entry))) root) bindingRow (tableAliases (now (source .entry)) (now (table .entry)) root) (now (out .entry)))
-        × (now (out .exit) ≡ lent (rootRules (now (table .entry)) (length (now (source .entry))) root) bindingRow (tableAliases (now (source .entry)) (now (table .entry)) root) (now (out .entry))) ⌝ }
+    ensures { λ r. ⌜ Answers (rootRules (now (table .entry)) (length (now (source .entry))) root) bindingRow
+        (tableAliases (now (source .entry)) (now (table .entry)) root) (now (out .entry)) r (now (out .exit)) ⌝ }
 {
     list_of(Asked::TableAliases, table, source, root, out)
 }
 
 // The column aliases of a root.
 pub fn column_aliases(table: &[u8], source: &[u8], root: usize, out: &mut [u8]) -> Listed
-    ensures { λ r. ⌜ (r ≡ listed (rootRules (now (table .entry)) (length (now (source .entry))) root) bindingRow (columnAliases (now (source .entry)) (now (table .entry)) root) (now (out .entry)))
-        × (now (out .exit) ≡ lent (rootRules (now (table .entry)) (length (now (source .entry))) root) bindingRow (columnAliases (now (source .entry)) (now (table .entry)) root) (now (out .entry))) ⌝ }
+    ensures { λ r. ⌜ Answers (rootRules (now (table .entry)) (length (now (source .entry))) root) bindingRow
+        (columnAliases (now (source .entry)) (now (table .entry)) root) (now (out .entry)) r (now (out .exit)) ⌝ }
 {
     list_of(Asked::ColumnAliases, table, source, root, out)
 }
 
 // The table references of a root.
 pub fn table_refs(table: &[u8], source: &[u8], root: usize, out: &mut [u8]) -> Listed
-    ensures { λ r. ⌜ (r ≡ listed (rootRules (now (table .entry)) (length (now (source .entry))) root) referenceRow (tableRefs (now (source .entry)) (now (table .entry)) root) (now (out .entry)))
-        × (now (out .exit) ≡ lent (rootRules (now (table .entry)) (length (now (source .entry))) root) referenceRow (tableRefs (now (source .entry)) (now (table .entry)) root) (now (out .entry))) ⌝ }
+    ensures { λ r. ⌜ Answers (rootRules (now (table .entry)) (length (now (source .entry))) root) referenceRow
+        (tableRefs (now (source .entry)) (now (table .entry)) root) (now (out .entry)) r (now (out .exit)) ⌝ }
 {
     list_of(Asked::TableRefs, table, source, root, out)
 }

@@ -3,6 +3,7 @@ use keywords::keywords::KEYWORDS;
 use keywords::keywords::STARTS;
 use keywords::keywords::Starts;
 use keywords::keywords::keyword_in;
+use table::check::NO_ROOM;
 use table::check::Verdict;
 use table::check::check;
 use table::kinds::BARE_WORD;
@@ -33,9 +34,9 @@ ghost use lib.ListN.{length};
 ghost use Rattle.table.specs.Table.{count, records, kindAt};
 ghost use Rattle.table.specs.Forest.{kids, stretchEnd};
 ghost use Rattle.table.specs.Rules.{mostRecords, rules};
-ghost use Rattle.table.specs.Lists.{farthest, listBytes, Written, listed, lent};
+ghost use Rattle.table.specs.Lists.{farthest, listBytes, Written, lent, Answers};
 ghost use Rattle.keywords.specs.inner.KeywordTable.{Lent};
-ghost use Rattle.scope.specs.Classes.{byParent, judged, bareword, classOf, numberOf, row, entryBytes, entryOf, classes, classesOf};
+ghost use Rattle.scope.specs.Classes.{byParent, judged, bareword, classOf, numberOf, classRow, entryBytes, entryOf, classes, classesOf};
 
 // The classes by document 01's numbers, 0 to 9, and none.
 pub enum TokenClass {
@@ -71,6 +72,7 @@ const ENTRY_BYTES: usize = 3 * NUMBER_BYTES;
 // What a token without a class has in place of a number.
 const UNCLASSED: usize = 10;
 
+// The number of a class.
 fn number_of(c: TokenClass) -> usize
     ensures { λ r. ⌜ r ≡ numberOf c ⌝ }
 {
@@ -89,6 +91,7 @@ fn number_of(c: TokenClass) -> usize
     }
 }
 
+// The class of a Quoted: its parent's kind decides.
 fn classify_identifier_by_parent(parent: usize) -> TokenClass
     ensures { λ r. ⌜ r ≡ byParent parent ⌝ }
 {
@@ -136,6 +139,7 @@ fn classify_bareword(words: &[u8], starts: &Starts, text: &[u8], parent: usize) 
     }
 }
 
+// The class of a token, in the order of the Rust's tests.
 fn classify_token(
     words: &[u8],
     starts: &Starts,
@@ -162,7 +166,7 @@ fn classify_token(
 // Writes the entry of a token, if it has a class, to byte `at` and returns the byte of the next entry.
 fn put_class(out: &mut [u8], at: usize, c: TokenClass, start: usize, end: usize) -> usize
     requires { ⌜ at < farthest ⌝ }
-    ensures { λ r. ⌜ Written row (entryOf c start «end») (now (out .entry)) at (now (out .exit)) r × (r ≤ at + entryBytes) ⌝ }
+    ensures { λ r. ⌜ Written classRow (entryOf c start «end») (now (out .entry)) at (now (out .exit)) r × (r ≤ at + entryBytes) ⌝ }
 {
     let class = number_of(c);
     if class == UNCLASSED {
@@ -181,7 +185,8 @@ fn collect_tokens(
     at: usize,
 ) -> Walked
     requires { ⌜ Lent (now words) (now starts) × (0 < count (now s)) × (at + entryBytes * count (now s) < farthest) ⌝ }
-    ensures { λ r. ⌜ ((base : ℕ) → Written row (classes (now (source .entry)) (kindAt (now (s .entry)) 0) (kids (records base (now (s .entry))))) (now (out .entry)) at (now (out .exit)) (r .at))
+    ensures { λ r. ⌜ ((base : ℕ) → Written classRow (classes (now (source .entry)) (kindAt (now (s .entry)) 0)
+        (kids (records base (now (s .entry))))) (now (out .entry)) at (now (out .exit)) (r .at))
         × (r .used ≡ stretchEnd (now (s .entry)) 0) × (r .used ≤ count (now (s .entry))) × (1 ≤ r .used) × (r .at ≤ at + entryBytes * r .used) ⌝ }
 {
     let m = count_of(s);
@@ -212,7 +217,8 @@ fn collect_tokens(
 // How many bytes the list takes.
 fn class_bytes(words: &[u8], starts: &Starts, table: &[u8], source: &[u8]) -> usize
     requires { ⌜ Lent (now words) (now starts) × (0 < count (now table)) × (count (now table) ≤ mostRecords) ⌝ }
-    ensures { λ r. ⌜ (r ≡ length (listBytes row (classesOf (now (source .entry)) (now (table .entry))))) × (r ≤ entryBytes * count (now (table .entry))) ⌝ }
+    ensures { λ r. ⌜ (r ≡ length (listBytes classRow (classesOf (now (source .entry)) (now (table .entry)))))
+        × (r ≤ entryBytes * count (now (table .entry))) ⌝ }
 {
     let mut none = [0u8; 0];
     let w = collect_tokens(words, starts, table, source, &mut none, 0);
@@ -228,14 +234,14 @@ fn list_classes(
     out: &mut [u8],
 ) -> Listed
     requires { ⌜ Lent (now words) (now starts) × (0 < count (now table)) × (count (now table) ≤ mostRecords) ⌝ }
-    ensures { λ r. ⌜ (r ≡ listed [] row (classesOf (now (source .entry)) (now (table .entry))) (now (out .entry)))
-        × (now (out .exit) ≡ lent [] row (classesOf (now (source .entry)) (now (table .entry))) (now (out .entry))) ⌝ }
+    ensures { λ r. ⌜ Answers [] classRow
+        (classesOf (now (source .entry)) (now (table .entry))) (now (out .entry)) r (now (out .exit)) ⌝ }
 {
     let room = out.len();
     if room < ENTRY_BYTES * count_of(table) {
         let needed = class_bytes(words, starts, table, source);
         if room < needed {
-            return Listed::Refused(7, (needed / ENTRY_BYTES) as u32);
+            return Listed::Refused(NO_ROOM, (needed / ENTRY_BYTES) as u32);
         }
     }
     let w = collect_tokens(words, starts, table, source, out, 0);
@@ -244,8 +250,8 @@ fn list_classes(
 
 // The question: start, end and class of every classed token, in order.
 pub fn token_classes(table: &[u8], source: &[u8], out: &mut [u8]) -> Listed
-    ensures { λ r. ⌜ (r ≡ listed (rules (now (table .entry)) (length (now (source .entry))) 0) row (classesOf (now (source .entry)) (now (table .entry))) (now (out .entry)))
-        × (now (out .exit) ≡ lent (rules (now (table .entry)) (length (now (source .entry))) 0) row (classesOf (now (source .entry)) (now (table .entry))) (now (out .entry))) ⌝ }
+    ensures { λ r. ⌜ Answers (rules (now (table .entry)) (length (now (source .entry))) 0) classRow
+        (classesOf (now (source .entry)) (now (table .entry))) (now (out .entry)) r (now (out .exit)) ⌝ }
 {
     match check(table, source) {
         Verdict::Refused(k, d) => Listed::Refused(k, d),

@@ -26,7 +26,7 @@ use Rattle.statement.specs.declared.statement.Enclosing.the-variants.{Ou
 use Rattle.statement.specs.declared.statement.StatementReply.{StatementReply}
 use Rattle.statement.specs.declared.statement.StatementReply.the-variants.{Refused as Denied}
 use Rattle.table.specs.Ranges.{spans, holds}
-use Rattle.statement.specs.Statement.{isStatement, itself, orElse, firstFind, enclosingAt, told, statementReply, Hold, Candidate, insideOf, Innermost, First, NoCandidate}
+use Rattle.statement.specs.Statement.{isStatement, itself, orElse, firstFind, enclosingAt, told, statementReply, Hold, Candidate, insideOf, Innermost, FirstInnermost, NoCandidate}
 
 -- ---- the loop at record i
 
@@ -144,7 +144,7 @@ module _ (o : ℕ) where
   -- what a search among siblings finds of the nodes there
   unfoldable Finds : Enclosing → List Place → Type 0
   Finds Outside ps = NoCandidate o ps
-  Finds (Record n) ps = First o ps n
+  Finds (Record n) ps = FirstInnermost o ps n
 
   -- nodes that have no innermost candidate in front of others
   in-front : (xs : List Place) (e : Enclosing) (ps : List Place) → NoCandidate o xs → Finds e ps → Finds e (xs ++ ps)
@@ -195,7 +195,7 @@ module _ (o : ℕ) where
         go false s = λ q m c. ⊎-elim (λ i. clash (sym (rw i at (c .statement)) ∙ s)) (λ i. n q i c) (List·Memᴰ·cases-cons m)
 
     -- what is found inside it is found of it and those inside
-    within : (n : ℕ) → First o (places (r ∷ above) below) n → First o (here ∷ places (r ∷ above) below) n
+    within : (n : ℕ) → FirstInnermost o (places (r ∷ above) below) n → FirstInnermost o (here ∷ places (r ∷ above) below) n
     within n f =
         record {
           before = here ∷ f .before;
@@ -220,7 +220,7 @@ module _ (o : ℕ) where
     node-finds (Record k) h a f = within k f
 
   -- one after the other
-  behind : (n : ℕ) (ps qs : List Place) → First o ps n → First o (ps ++ qs) n
+  behind : (n : ℕ) (ps qs : List Place) → FirstInnermost o ps n → FirstInnermost o (ps ++ qs) n
   behind n ps qs f =
       record {
         before = f .before;
@@ -254,7 +254,7 @@ module _ (t : List ℕ) (o : ℕ) where
   unfolding enclosingAt Hold
   table-finds = finds o _ [] tt
 
-  pub given-first : (n : ℕ) → enclosingAt t o ≡ Record n → First o (nodesOf t) n
+  pub given-first : (n : ℕ) → enclosingAt t o ≡ Record n → FirstInnermost o (nodesOf t) n
   unfolding Finds
   given-first n e = rw e at table-finds
 

@@ -77,7 +77,7 @@ pub record Innermost (o : ℕ) (p : Place) : Type 0 where
   pub none-inside : (q : Place) → List·Memᴰ q (insideOf p) → Candidate o q → ⊥
 
 -- of some nodes in document order, the first that is an innermost candidate has the number n
-pub record First (o : ℕ) (ps : List Place) (n : ℕ) : Type 0 where
+pub record FirstInnermost (o : ℕ) (ps : List Place) (n : ℕ) : Type 0 where
   pub before : List Place
   pub it : Place
   pub after : List Place

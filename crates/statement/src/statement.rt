@@ -14,7 +14,7 @@ use table::stretch::rest_from;
 ghost use mathlib.Core.Path.{_≡_};
 ghost use Prim.Native.Nat.{_+_, _<_};
 ghost use lib.ListN.{length};
-ghost use Rattle.table.specs.Table.{count, records};
+ghost use Rattle.table.specs.Table.{count, records, wordLimit};
 ghost use Rattle.table.specs.Forest.{kids};
 ghost use Rattle.table.specs.Rules.{verdict};
 ghost use Rattle.table.specs.Ranges.{spans};
@@ -36,7 +36,7 @@ pub enum StatementReply {
 
 // What is found below a node, else the node itself if it is a statement.
 fn else_itself(inner: Enclosing, kind: usize, i: usize) -> Enclosing
-    requires { ⌜ i < 4294967296 ⌝ }
+    requires { ⌜ i < wordLimit ⌝ }
     ensures { λ r. ⌜ r ≡ orElse inner (itself kind i) ⌝ }
 {
     match inner {
@@ -53,7 +53,7 @@ fn else_itself(inner: Enclosing, kind: usize, i: usize) -> Enclosing
 
 // The first find among the children of the first record of the stretch s, whose number is base.
 fn first_find(s: &[u8], base: usize, offset: usize) -> Enclosing
-    requires { ⌜ base + count (now s) < 4294967296 ⌝ }
+    requires { ⌜ base + count (now s) < wordLimit ⌝ }
     ensures { λ r. ⌜ r ≡ firstFind offset (kids (records base (now (s .entry)))) ⌝ }
 {
     let m = count_of(s);
@@ -77,7 +77,7 @@ fn first_find(s: &[u8], base: usize, offset: usize) -> Enclosing
 
 // The search from record 0.
 pub fn find_enclosing_statement(table: &[u8], offset: usize) -> Enclosing
-    requires { ⌜ (0 < count (now table)) × (count (now table) < 4294967296) ⌝ }
+    requires { ⌜ (0 < count (now table)) × (count (now table) < wordLimit) ⌝ }
     ensures { λ r. ⌜ r ≡ enclosingAt (now (table .entry)) offset ⌝ }
 {
     let start = start_at(table, 0);
@@ -88,6 +88,7 @@ pub fn find_enclosing_statement(table: &[u8], offset: usize) -> Enclosing
     Enclosing::Outside
 }
 
+// The reply that a search gives.
 fn told(e: Enclosing) -> StatementReply
     ensures { λ r. ⌜ r ≡ told e ⌝ }
 {

@@ -24,7 +24,7 @@ use Rattle.table.specs.declared.check.Found.the-variants.{Next, Broken}
 use Rattle.table.specs.Kinds.{isNode, isToken}
 use Rattle.table.specs.Table.{recordBytes, count, kindAt, depthAt, recordAt}
 use Rattle.table.specs.Rules.{mostRecords, mostDepth, badLength, tooLong, unlisted, misplaced, tooDeep, badSpan, lastEnd, noRoot, Rule, rule, rulesAt, rulesFrom, rules, first, verdict, rootVerdict}
-use Rattle.table.specs.inner.Step.{deepest, knownAt, after, strange, outOfPlace, offSource, stepOf}
+use Rattle.table.specs.inner.Step.{deepestNext, knownAt, after, strange, outOfPlace, offSource, stepOf}
 use Rattle.table.proofs.Laws.{lt-or-le}
 
 -- ---- what the check finds at record i is what the rules say of it
@@ -46,7 +46,7 @@ over false d e = none (ltb (d + 1) e)
     none false = refl
 
 place-at : (t : List ℕ) (i : ℕ) → outOfPlace (knownAt t i) (recordAt t 0 i) ≡ misplaced t i
-unfolding outOfPlace knownAt deepest recordAt misplaced
+unfolding outOfPlace knownAt deepestNext recordAt misplaced
 place-at t zero = refl
 place-at t (suc i) =
     rw (zero-add (suc i), ne-eqb (suc i) 0 (λ e. omega arith), over (isToken (kindAt t i)) (depthAt t i) (depthAt t (suc i)))
@@ -61,7 +61,7 @@ found p q r s b = cond p (Broken 3) (cond q (Broken 4) (cond r (Broken 5) (cond 
 
 step-at : (t : List ℕ) (n i : ℕ)
     → stepOf n (knownAt t i) (recordAt t 0 i) ≡ found (unlisted t i) (misplaced t i) (tooDeep t i) (badSpan t n i) (knownAt t (suc i))
-unfolding stepOf strange offSource badSpan after knownAt deepest lastEnd recordAt
+unfolding stepOf strange offSource badSpan after knownAt deepestNext lastEnd recordAt
 step-at t n i =
     ap (λ (q : Bool). found (unlisted t i) q (tooDeep t i) (badSpan t n i) (knownAt t (suc i))) (place-at t i)
 
@@ -89,7 +89,7 @@ pub record Checking (t : List ℕ) (n i : ℕ) (b : Known) (v : Verdict) : Type 
   pub left : v ≡ first (rulesFrom t n i (count t - i))
 
 pub checking-start : (t : List ℕ) (n : ℕ) → Checking t n 0 (record { deepest = 0; end = 0 }) (first (rulesFrom t n 0 (count t)))
-unfolding knownAt deepest lastEnd
+unfolding knownAt deepestNext lastEnd
 checking-start t n = let e : count t - 0 ≡ count t = omega arith in record { known = refl; left = rw e }
 
 module _ {t : List ℕ} {n i : ℕ} {b : Known} {v : Verdict} (w : Checking t n i b v) where
@@ -146,6 +146,16 @@ then-admitted (r ∷ rs) more e = go (r .broken) (then-admitted rs more) e
     go : (b : Bool) → (Admitted ≡ first rs → first (rs ++ more) ≡ first more) → Admitted ≡ cond b (Refused (r .number) (r .detail)) (first rs) → cond b (Refused (r .number) (r .detail)) (first (rs ++ more)) ≡ first more
     go true ih p = absurd (let z : _≡_ {A = ℕ} 0 1 = cc in omega arith)
     go false ih p = ih p
+
+-- ---- what the check says, of the rules
+module _ (t : List ℕ) (n m : ℕ) {v : Verdict} (e : v ≡ verdict t n m) where
+  pub rules-refused : {k d : ℕ} → v ≡ Refused k d → Refused k d ≡ first (rules t n m)
+  unfolding verdict
+  rules-refused q = sym q ∙ e
+
+  pub rules-passed : v ≡ Admitted → Admitted ≡ first (rules t n m)
+  unfolding verdict
+  rules-passed q = sym q ∙ e
 
 -- ---- the check of a named root
 module _ (t : List ℕ) (n i : ℕ) where

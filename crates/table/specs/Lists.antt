@@ -64,6 +64,10 @@ listed rs row es out = reply (listVerdict rs row es out) (length es)
 unfoldable pub lent : {E : Type 0} → List Rule → (E → List ℕ) → List E → List ℕ → List ℕ
 lent rs row es out = buffer (listVerdict rs row es out) (listBytes row es ++ drop (length (listBytes row es)) out) out
 
+-- a question with the rules rs that lists es: its reply, and its buffer before and afterwards
+abbrev pub Answers : {E : Type 0} → List Rule → (E → List ℕ) → List E → List ℕ → Listed → List ℕ → Type 0
+Answers rs row es before reply after = (reply ≡ listed rs row es before) × (after ≡ lent rs row es before)
+
 -- ---- how a walk writes: entry by entry, as far as there is room
 
 -- out with an entry from byte `at` on, if it has room for it there

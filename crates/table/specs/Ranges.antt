@@ -8,9 +8,13 @@ use Rattle.table.specs.declared.range.Range.{Range}
 
 -- ---- ranges
 
+-- what stands for a number that is not there
+abbrev pub absentNumber : ℕ
+absentNumber = 4294967295
+
 -- an absent range is 4294967295 twice
 abbrev pub absent : Range
-absent = record { start = 4294967295; end = 4294967295 }
+absent = record { start = absentNumber; end = absentNumber }
 
 -- the range of a record
 abbrev pub span : Rec → Range

@@ -11,6 +11,10 @@ use Rattle.table.specs.declared.record.Rec.{Rec}
 abbrev pub recordBytes : ℕ
 recordBytes = 16
 
+-- a number of four bytes is below this
+abbrev pub wordLimit : ℕ
+wordLimit = 4294967296
+
 -- the little-endian number in the four bytes of t from `at` on
 unfoldable pub word : List ℕ → ℕ → ℕ
 word t at = getD t at 0 + getD t (at + 1) 0 * 256 + getD t (at + 2) 0 * 65536 + getD t (at + 3) 0 * 16777216

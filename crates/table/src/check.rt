@@ -8,11 +8,12 @@ use crate::record::record_at;
 ghost use mathlib.Core.Path.{_≡_};
 ghost use Prim.Native.Nat.{_+_, _≤_, _<_};
 ghost use lib.ListN.{length};
-ghost use Rattle.table.specs.Table.{count};
+ghost use Rattle.table.specs.Table.{count, wordLimit};
 ghost use Rattle.table.specs.Rules.{mostRecords, badLength, tooLong, noRoot, first, rulesFrom, verdict, rootVerdict};
 ghost use Rattle.table.specs.inner.Step.{after, strange, outOfPlace, offSource, stepOf};
 
-const MOST_RECORDS: usize = 4096;
+// The most records, depth, bytes of a source and bytes of a message.
+pub const MOST_RECORDS: usize = 4096;
 
 const MOST_DEPTH: usize = 63;
 
@@ -20,6 +21,24 @@ const MOST_SOURCE: usize = 65536;
 
 const MOST_MESSAGE: usize = 4096;
 
+// The refusals, by document 01's numbers.
+const BAD_LENGTH: u32 = 1;
+
+const TOO_LONG: u32 = 2;
+
+const UNLISTED_KIND: u32 = 3;
+
+const MISPLACED: u32 = 4;
+
+const TOO_DEEP: u32 = 5;
+
+const BAD_SPAN: u32 = 6;
+
+pub const NO_ROOM: u32 = 7;
+
+const NO_ROOT: u32 = 8;
+
+// What the check says of a table.
 pub enum Verdict {
     Admitted,
     // the refusal's number and its detail
@@ -38,6 +57,7 @@ pub enum Found {
     Broken(u32),
 }
 
+// Refusal 1: the table has no record, a part of one, or too many.
 fn bad_length(t: &[u8]) -> bool
     ensures { λ r. ⌜ r ≡ badLength (now (t .entry)) ⌝ }
 {
@@ -45,18 +65,21 @@ fn bad_length(t: &[u8]) -> bool
     (n == 0) | (n % RECORD_BYTES != 0) | (MOST_RECORDS < n / RECORD_BYTES)
 }
 
+// Refusal 2: the source or the message is too long.
 fn too_long(source: usize, message: usize) -> bool
     ensures { λ r. ⌜ r ≡ tooLong source message ⌝ }
 {
     (MOST_SOURCE < source) | (MOST_MESSAGE < message)
 }
 
+// Refusal 3: the kind is not listed.
 fn strange(kind: usize) -> bool
     ensures { λ r. ⌜ r ≡ strange kind ⌝ }
 {
     !(is_node(kind) | is_token(kind))
 }
 
+// Refusal 4: the record cannot stand here.
 fn out_of_place(b: Known, r: Rec) -> bool
     ensures { λ x. ⌜ x ≡ outOfPlace b r ⌝ }
 {
@@ -67,14 +90,16 @@ fn out_of_place(b: Known, r: Rec) -> bool
     }
 }
 
+// Refusal 6: the token has a bad span, for a source of n bytes.
 fn off_source(n: usize, b: Known, r: Rec) -> bool
     ensures { λ x. ⌜ x ≡ offSource n b r ⌝ }
 {
     is_token(r.kind) & ((r.end < r.start) | (n < r.end) | (r.start < b.end))
 }
 
+// What is known after the record r.
 fn after(b: Known, r: Rec) -> Known
-    requires { ⌜ r .depth < 4294967296 ⌝ }
+    requires { ⌜ r .depth < wordLimit ⌝ }
     ensures { λ x. ⌜ x ≡ after b r ⌝ }
 {
     if is_token(r.kind) {
@@ -95,16 +120,16 @@ fn step(n: usize, b: Known, r: Rec) -> Found
     ensures { λ x. ⌜ x ≡ stepOf n b r ⌝ }
 {
     if strange(r.kind) {
-        return Found::Broken(3);
+        return Found::Broken(UNLISTED_KIND);
     }
     if out_of_place(b, r) {
-        return Found::Broken(4);
+        return Found::Broken(MISPLACED);
     }
     if MOST_DEPTH < r.depth {
-        return Found::Broken(5);
+        return Found::Broken(TOO_DEEP);
     }
     if off_source(n, b, r) {
-        return Found::Broken(6);
+        return Found::Broken(BAD_SPAN);
     }
     Found::Next(after(b, r))
 }
@@ -132,10 +157,10 @@ fn verdict_on(table: &[u8], source: usize, message: usize) -> Verdict
     ensures { λ r. ⌜ r ≡ verdict (now (table .entry)) source message ⌝ }
 {
     if bad_length(table) {
-        return Verdict::Refused(1, 0);
+        return Verdict::Refused(BAD_LENGTH, 0);
     }
     if too_long(source, message) {
-        return Verdict::Refused(2, 0);
+        return Verdict::Refused(TOO_LONG, 0);
     }
     check_records(table, source)
 }
@@ -154,6 +179,7 @@ pub fn check_message(table: &[u8], source: &[u8], message: &[u8]) -> Verdict
     verdict_on(table, source.len(), message.len())
 }
 
+// Refusal 8: the record is no node of the table.
 fn no_root(table: &[u8], root: usize) -> bool
     ensures { λ r. ⌜ r ≡ noRoot (now (table .entry)) root ⌝ }
 {
@@ -172,7 +198,7 @@ pub fn check_root(table: &[u8], source: &[u8], root: usize) -> Verdict
         Verdict::Refused(k, d) => Verdict::Refused(k, d),
         Verdict::Admitted => {
             if no_root(table, root) {
-                Verdict::Refused(8, 0)
+                Verdict::Refused(NO_ROOT, 0)
             } else {
                 Verdict::Admitted
             }

@@ -116,12 +116,14 @@ pub const PLUS: usize = 143;
 
 pub const LAST_TOKEN: usize = 157;
 
+// A kind of node.
 pub fn is_node(kind: usize) -> bool
     ensures { λ r. ⌜ r ≡ isNode kind ⌝ }
 {
     kind <= LAST_NODE
 }
 
+// A kind of token.
 pub fn is_token(kind: usize) -> bool
     ensures { λ r. ⌜ r ≡ isToken kind ⌝ }
 {

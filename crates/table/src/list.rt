@@ -16,6 +16,7 @@ pub enum Listed {
     Refused(u32, u32),
 }
 
+// Writes the four little-endian bytes of v.
 fn put_number(out: &mut [u8], at: usize, v: usize)
     requires { ⌜ at + numberBytes ≤ length (now out) ⌝ }
     ensures { λ _. ⌜ now (out .exit) ≡ sets (now (out .entry)) at (le4 v) ⌝ }

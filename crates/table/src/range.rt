@@ -1,6 +1,7 @@
 // A range of the source, and when a span holds an offset.
 use crate::kinds::is_node;
 use crate::record::Rec;
+use crate::record::WORD_LIMIT;
 use crate::record::end_at;
 use crate::record::kind_at;
 use crate::record::start_at;
@@ -12,13 +13,15 @@ ghost use Rattle.table.specs.Table.{count, kindAt, startAt, endAt};
 ghost use Rattle.table.specs.Ranges.{absent, span, spans};
 
 // The start and the end of an absent range.
-pub const ABSENT: usize = 4294967295;
+pub const ABSENT: usize = WORD_LIMIT - 1;
 
+// The bytes of the source from start up to end.
 pub struct Range {
     pub start: usize,
     pub end: usize,
 }
 
+// The absent range.
 pub fn no_range() -> Range
     ensures { λ r. ⌜ r ≡ absent ⌝ }
 {
@@ -28,6 +31,7 @@ pub fn no_range() -> Range
     }
 }
 
+// The range of a record.
 pub fn span_of(r: Rec) -> Range
     ensures { λ x. ⌜ x ≡ span r ⌝ }
 {
@@ -37,6 +41,7 @@ pub fn span_of(r: Rec) -> Range
     }
 }
 
+// A span holds the offset, both ends inclusive; an empty one holds none.
 pub fn spans(start: usize, end: usize, offset: usize) -> bool
     ensures { λ r. ⌜ r ≡ spans offset start end ⌝ }
 {

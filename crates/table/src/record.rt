@@ -2,9 +2,13 @@
 ghost use mathlib.Core.Path.{_≡_};
 ghost use Prim.Native.Nat.{_+_, _≤_, _<_};
 ghost use lib.ListN.{length};
-ghost use Rattle.table.specs.Table.{word, count, kindAt, depthAt, startAt, endAt, recordAt};
+ghost use Rattle.table.specs.Table.{word, count, kindAt, depthAt, startAt, endAt, recordAt, wordLimit};
 
+// How many bytes a record has.
 pub const RECORD_BYTES: usize = 16;
+
+// A number of four bytes is below this.
+pub const WORD_LIMIT: usize = 4294967296;
 
 // A record with its number. The number goes with it however deep the part is that it was read from.
 pub struct Rec {
@@ -15,6 +19,7 @@ pub struct Rec {
     pub end: usize,
 }
 
+// A byte as a number.
 fn wide(x: u8) -> usize
     ensures { λ r. ⌜ (r ≡ x) × (r < 256) ⌝ }
 {
@@ -24,7 +29,7 @@ fn wide(x: u8) -> usize
 // The little-endian number in the four bytes from `at` on.
 pub fn word_at(t: &[u8], at: usize) -> usize
     requires { ⌜ at + 4 ≤ length (now t) ⌝ }
-    ensures { λ r. ⌜ (r ≡ word (now (t .entry)) at) × (r < 4294967296) ⌝ }
+    ensures { λ r. ⌜ (r ≡ word (now (t .entry)) at) × (r < wordLimit) ⌝ }
 {
     let a = wide(t[at]);
     let b = wide(t[at + 1]);
@@ -40,37 +45,41 @@ pub fn count_of(t: &[u8]) -> usize
     t.len() / RECORD_BYTES
 }
 
+// The kind of record i.
 pub fn kind_at(t: &[u8], i: usize) -> usize
     requires { ⌜ i < count (now t) ⌝ }
-    ensures { λ r. ⌜ (r ≡ kindAt (now (t .entry)) i) × (r < 4294967296) ⌝ }
+    ensures { λ r. ⌜ (r ≡ kindAt (now (t .entry)) i) × (r < wordLimit) ⌝ }
 {
     word_at(t, RECORD_BYTES * i)
 }
 
+// The depth of record i.
 pub fn depth_at(t: &[u8], i: usize) -> usize
     requires { ⌜ i < count (now t) ⌝ }
-    ensures { λ r. ⌜ (r ≡ depthAt (now (t .entry)) i) × (r < 4294967296) ⌝ }
+    ensures { λ r. ⌜ (r ≡ depthAt (now (t .entry)) i) × (r < wordLimit) ⌝ }
 {
     word_at(t, RECORD_BYTES * i + 4)
 }
 
+// The start of record i.
 pub fn start_at(t: &[u8], i: usize) -> usize
     requires { ⌜ i < count (now t) ⌝ }
-    ensures { λ r. ⌜ (r ≡ startAt (now (t .entry)) i) × (r < 4294967296) ⌝ }
+    ensures { λ r. ⌜ (r ≡ startAt (now (t .entry)) i) × (r < wordLimit) ⌝ }
 {
     word_at(t, RECORD_BYTES * i + 8)
 }
 
+// The end of record i.
 pub fn end_at(t: &[u8], i: usize) -> usize
     requires { ⌜ i < count (now t) ⌝ }
-    ensures { λ r. ⌜ (r ≡ endAt (now (t .entry)) i) × (r < 4294967296) ⌝ }
+    ensures { λ r. ⌜ (r ≡ endAt (now (t .entry)) i) × (r < wordLimit) ⌝ }
 {
     word_at(t, RECORD_BYTES * i + 12)
 }
 
 // Record i of t, where t's first record has the number base.
 pub fn record_at(t: &[u8], base: usize, i: usize) -> Rec
-    requires { ⌜ (i < count (now t)) × (base + i < 4294967296) ⌝ }
+    requires { ⌜ (i < count (now t)) × (base + i < wordLimit) ⌝ }
     ensures { λ r. ⌜ r ≡ recordAt (now (t .entry)) base i ⌝ }
 {
     Rec {

@@ -20,7 +20,7 @@ use Rattle.tables.specs.declared.tables.Reads.{Reads}
 use Rattle.tables.specs.declared.tables.Reads.the-variants.{Aliases, References}
 use Rattle.names.specs.Names.{isPart, direct, aliasIn}
 use Rattle.names.specs.Bindings.{entry, bindingRow}
-use Rattle.tables.specs.Tables.{fresh, aliased, Listing, handOn, listAlias, reading, referenceRow}
+use Rattle.tables.specs.Tables.{fresh, aliased, Listing, handOn, listAlias, tableReading, referenceRow}
 use Rattle.tables.specs.inner.Rows.{rowsOf, pends}
 use Rattle.table.proofs.Fields.{kind-yes, kind-no, index-of}
 
@@ -59,61 +59,61 @@ alias-held (Held t) (Named b) e y = refl
 -- ---- the table reading: what it has yet to read with p pending, at a record of each kind
 
 module _ {E : Type 0} (L : Listing E) (src : List ℕ) (p : Pending) (r : Rec) (below f : Forest) where
-  at-name : eqb (r .kind) tableIdentifier ≡ true → reading L src p (node r below f) ≡ handOn L p ++ reading L src (fresh (r .index) (direct isPart below)) f
-  unfolding reading
+  at-name : eqb (r .kind) tableIdentifier ≡ true → tableReading L src p (node r below f) ≡ handOn L p ++ tableReading L src (fresh (r .index) (direct isPart below)) f
+  unfolding tableReading
   at-name e = rw e
 
   module _ (a : eqb (r .kind) tableIdentifier ≡ false) where
     at-alias : eqb (r .kind) tableAlias ≡ true
-        → reading L src p (node r below f) ≡ listAlias L p (aliasIn src r below) ++ reading L src (aliased p (aliasIn src r below)) f
-    unfolding reading
+        → tableReading L src p (node r below f) ≡ listAlias L p (aliasIn src r below) ++ tableReading L src (aliased p (aliasIn src r below)) f
+    unfolding tableReading
     at-alias e = rw (a, e)
 
     module _ (b : eqb (r .kind) tableAlias ≡ false) where
-      at-table : eqb (r .kind) tableExpression ≡ true → reading L src p (node r below f) ≡ reading L src Nothing below ++ reading L src p f
-      unfolding reading
+      at-table : eqb (r .kind) tableExpression ≡ true → tableReading L src p (node r below f) ≡ tableReading L src Nothing below ++ tableReading L src p f
+      unfolding tableReading
       at-table e = rw (a, b, e)
 
       module _ (c : eqb (r .kind) tableExpression ≡ false) where
-        at-join : eqb (r .kind) joinClause ≡ true → reading L src p (node r below f) ≡ handOn L p ++ (reading L src Nothing below ++ reading L src Nothing f)
-        unfolding reading
+        at-join : eqb (r .kind) joinClause ≡ true → tableReading L src p (node r below f) ≡ handOn L p ++ (tableReading L src Nothing below ++ tableReading L src Nothing f)
+        unfolding tableReading
         at-join e = rw (a, b, c, e)
 
-        at-other : eqb (r .kind) joinClause ≡ false → reading L src p (node r below f) ≡ reading L src p f
-        unfolding reading
+        at-other : eqb (r .kind) joinClause ≡ false → tableReading L src p (node r below f) ≡ tableReading L src p f
+        unfolding tableReading
         at-other e = rw (a, b, c, e)
 
 module _ {E : Type 0} (L : Listing E) (src : List ℕ) (p : Pending) (s : List ℕ) (base i : ℕ) (f : Forest) where
-  pub read-token : reading L src p (token (recordAt s base i) f) ≡ reading L src p f
-  unfolding reading
+  pub read-token : tableReading L src p (token (recordAt s base i) f) ≡ tableReading L src p f
+  unfolding tableReading
   read-token = refl
 
   pub read-name : {q : Pending} (below : Forest) → kindAt s i ≡ tableIdentifier → q ≡ fresh (base + i) (direct isPart below)
-      → reading L src p (node (recordAt s base i) below f) ≡ handOn L p ++ reading L src q f
+      → tableReading L src p (node (recordAt s base i) below f) ≡ handOn L p ++ tableReading L src q f
   read-name below e q = at-name L src p _ below f (kind-yes s base i e) ∙ rw (index-of s base i, q)
 
   pub read-alias : {q : Pending} {b : Bound} {t : List ℕ} → i < count s → t ≡ part s i (stretchEnd s i) → kindAt s i ≡ tableAlias
       → b ≡ aliasIn src (recordAt t (base + i) 0) (kids (records (base + i) t)) → q ≡ aliased p b
-      → reading L src p (node (recordAt s base i) (kids (records (base + i) t)) f) ≡ listAlias L p b ++ reading L src q f
+      → tableReading L src p (node (recordAt s base i) (kids (records (base + i) t)) f) ≡ listAlias L p b ++ tableReading L src q f
   read-alias h t e b q =
       at-alias L src p _ _ f (kind-no s base i tableIdentifier (λ x. omega arith)) (kind-yes s base i e)
       ∙ rw (q, b, head-part s base i h t)
 
   module _ (below : Forest) where
-    pub read-table : kindAt s i ≡ tableExpression → reading L src p (node (recordAt s base i) below f) ≡ reading L src Nothing below ++ reading L src p f
+    pub read-table : kindAt s i ≡ tableExpression → tableReading L src p (node (recordAt s base i) below f) ≡ tableReading L src Nothing below ++ tableReading L src p f
     read-table e = at-table L src p _ below f (kind-no s base i tableIdentifier (λ x. omega arith)) (kind-no s base i tableAlias (λ x. omega arith)) (kind-yes s base i e)
 
     pub read-join : kindAt s i ≡ joinClause
-        → reading L src p (node (recordAt s base i) below f) ≡ (handOn L p ++ reading L src Nothing below) ++ reading L src Nothing f
+        → tableReading L src p (node (recordAt s base i) below f) ≡ (handOn L p ++ tableReading L src Nothing below) ++ tableReading L src Nothing f
     read-join e =
         at-join L src p _ below f (kind-no s base i tableIdentifier (λ x. omega arith)) (kind-no s base i tableAlias (λ x. omega arith)) (kind-no s base i tableExpression (λ x. omega arith)) (kind-yes s base i e)
-        ∙ sym (append-assoc (handOn L p) (reading L src Nothing below) (reading L src Nothing f))
+        ∙ sym (append-assoc (handOn L p) (tableReading L src Nothing below) (tableReading L src Nothing f))
 
     pub read-other : (kindAt s i ≡ tableIdentifier → ⊥) → (kindAt s i ≡ tableAlias → ⊥) → (kindAt s i ≡ tableExpression → ⊥) → (kindAt s i ≡ joinClause → ⊥)
-        → reading L src p (node (recordAt s base i) below f) ≡ reading L src p f
+        → tableReading L src p (node (recordAt s base i) below f) ≡ tableReading L src p f
     read-other a b c d =
         at-other L src p _ below f (kind-no s base i tableIdentifier a) (kind-no s base i tableAlias b) (kind-no s base i tableExpression c) (kind-no s base i joinClause d)
 
-pub read-end : {E : Type 0} (L : Listing E) (src : List ℕ) (p : Pending) → reading L src p nil ≡ handOn L p
-unfolding reading
+pub read-end : {E : Type 0} (L : Listing E) (src : List ℕ) (p : Pending) → tableReading L src p nil ≡ handOn L p
+unfolding tableReading
 read-end L src p = refl

@@ -1,7 +1,7 @@
 -- The table reading of FROM and JOIN, and the entries of its references.
 -- src is the source's bytes.
 -- Definitions only.
-use Prim.Native.Nat.{ℕ}
+use Prim.Native.Nat.{ℕ, _*_}
 use mathlib.Core.Bool.{cond}
 use mathlib.Core.List.{List, [], _∷_, _++_}
 use lib.Dec.{eqb}
@@ -16,6 +16,7 @@ use Rattle.tables.specs.declared.pending.Pending.{Pending}
 use Rattle.tables.specs.declared.pending.Pending.the-variants.{Nothing, Held}
 use Rattle.table.specs.Ranges.{absent, span}
 use Rattle.names.specs.Names.{isPart, direct, aliasIn}
+use Rattle.table.specs.Lists.{numberBytes}
 
 -- ---- the table reading
 
@@ -49,17 +50,17 @@ listAlias L (Held t) Unnamed = []
 listAlias L (Held t) (Named b) = L .alias b
 
 -- the reading of siblings with p pending; its end hands on
-unfoldable pub reading : {E : Type 0} → Listing E → List ℕ → Pending → Forest → List E
-reading L src p nil = handOn L p
-reading L src p (token r rest) = reading L src p rest
-reading {E} L src p (node r below rest) =
-    let name : List E = handOn L p ++ reading L src (fresh (r .index) (direct isPart below)) rest in
-    let alias : List E = listAlias L p (aliasIn src r below) ++ reading L src (aliased p (aliasIn src r below)) rest in
-    let table : List E = reading L src Nothing below ++ reading L src p rest in
-    let join : List E = handOn L p ++ (reading L src Nothing below ++ reading L src Nothing rest) in
-    let other : List E = reading L src p rest in
-    let not35 : List E = cond (eqb (r .kind) tableExpression) table (cond (eqb (r .kind) joinClause) join other) in
-    cond (eqb (r .kind) tableIdentifier) name (cond (eqb (r .kind) tableAlias) alias not35)
+unfoldable pub tableReading : {E : Type 0} → Listing E → List ℕ → Pending → Forest → List E
+tableReading L src p nil = handOn L p
+tableReading L src p (token r rest) = tableReading L src p rest
+tableReading {E} L src p (node r below rest) =
+    let name : List E = handOn L p ++ tableReading L src (fresh (r .index) (direct isPart below)) rest in
+    let alias : List E = listAlias L p (aliasIn src r below) ++ tableReading L src (aliased p (aliasIn src r below)) rest in
+    let table : List E = tableReading L src Nothing below ++ tableReading L src p rest in
+    let join : List E = handOn L p ++ (tableReading L src Nothing below ++ tableReading L src Nothing rest) in
+    let other : List E = tableReading L src p rest in
+    let further : List E = cond (eqb (r .kind) tableExpression) table (cond (eqb (r .kind) joinClause) join other) in
+    cond (eqb (r .kind) tableIdentifier) name (cond (eqb (r .kind) tableAlias) alias further)
 
 -- the references of a reading, and its aliases
 abbrev pub references : Listing TableRef
@@ -75,4 +76,4 @@ referenceRow e =
 
 -- how many bytes each takes
 abbrev pub referenceBytes : ℕ
-referenceBytes = 28
+referenceBytes = 7 * numberBytes

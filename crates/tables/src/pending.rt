@@ -1,6 +1,7 @@
 // The pending reference of a table reading.
 use names::names::Bound;
 use names::names::is_part;
+use table::list::NUMBER_BYTES;
 use table::range::Range;
 use table::range::no_range;
 use table::range::span_of;
@@ -16,7 +17,8 @@ ghost use Rattle.names.specs.Names.{isPart, direct};
 ghost use Rattle.tables.specs.Tables.{fresh, aliased};
 ghost use Rattle.tables.specs.inner.Rows.{pends};
 
-pub const REFERENCE_BYTES: usize = 28;
+// How many bytes the entry of a reference takes: seven numbers.
+pub const REFERENCE_BYTES: usize = 7 * NUMBER_BYTES;
 
 // A table reference in FROM or JOIN.
 pub struct TableRef {
@@ -67,6 +69,7 @@ pub fn extract_table_identifier(s: &[u8], base: usize) -> Pending
     })
 }
 
+// The reference with this alias.
 fn set_alias(mut t: TableRef, alias: Range) -> TableRef
     ensures { λ r. ⌜ r ≡ record { «record» = t .«record»; database = t .database; table = t .table; alias = alias } ⌝ }
 {
@@ -90,6 +93,7 @@ pub fn with_alias(p: Pending, b: Bound) -> Pending
     }
 }
 
+// Is a reference pending?
 pub fn is_pending(p: Pending) -> bool
     ensures { λ r. ⌜ r ≡ pends p ⌝ }
 {

@@ -22,8 +22,8 @@ ghost use Rattle.table.specs.Table.{count, records};
 ghost use Rattle.table.specs.Forest.{kids};
 ghost use Rattle.table.specs.Rules.{mostRecords};
 ghost use Rattle.table.specs.Lists.{farthest, Written};
-ghost use Rattle.tables.specs.Tables.{handOn, listAlias, reading, referenceBytes, referenceRow};
-ghost use Rattle.tables.specs.inner.Rows.{same, rowsOf, readBytes};
+ghost use Rattle.tables.specs.Tables.{handOn, listAlias, tableReading, referenceBytes, referenceRow};
+ghost use Rattle.tables.specs.inner.Rows.{asRow, rowsOf, readBytes};
 
 // What a table reading writes.
 pub enum Reads {
@@ -31,6 +31,7 @@ pub enum Reads {
     References,
 }
 
+// Writes a reference's entry from byte `at` on, and returns where the next entry goes.
 fn put_reference(t: TableRef, out: &mut [u8], at: usize) -> usize
     requires { ⌜ at < farthest ⌝ }
     ensures { λ r. ⌜ Written referenceRow (t ∷ []) (now (out .entry)) at (now (out .exit)) r × (r ≤ at + referenceBytes) ⌝ }
@@ -50,7 +51,7 @@ fn put_reference(t: TableRef, out: &mut [u8], at: usize) -> usize
 // Writes an alias that is set, if aliases are read, and returns where the next entry goes.
 fn put_alias(reads: Reads, p: Pending, b: Bound, out: &mut [u8], at: usize) -> usize
     requires { ⌜ at < farthest ⌝ }
-    ensures { λ r. ⌜ Written same (listAlias (rowsOf reads) p b) (now (out .entry)) at (now (out .exit)) r × (r ≤ at + referenceBytes) ⌝ }
+    ensures { λ r. ⌜ Written asRow (listAlias (rowsOf reads) p b) (now (out .entry)) at (now (out .exit)) r × (r ≤ at + referenceBytes) ⌝ }
 {
     match reads {
         Reads::References => at,
@@ -67,7 +68,7 @@ fn put_alias(reads: Reads, p: Pending, b: Bound, out: &mut [u8], at: usize) -> u
 // Writes the pending reference, if there is one and references are read, and returns where the next entry goes.
 fn hand_on(reads: Reads, p: Pending, out: &mut [u8], at: usize) -> usize
     requires { ⌜ at < farthest ⌝ }
-    ensures { λ r. ⌜ Written same (handOn (rowsOf reads) p) (now (out .entry)) at (now (out .exit)) r × (r ≤ at + referenceBytes) ⌝ }
+    ensures { λ r. ⌜ Written asRow (handOn (rowsOf reads) p) (now (out .entry)) at (now (out .exit)) r × (r ≤ at + referenceBytes) ⌝ }
 {
     match reads {
         Reads::Aliases => at,
@@ -89,7 +90,8 @@ pub fn collect_table_refs(
     at: usize,
 ) -> usize
     requires { ⌜ (0 < count (now s)) × (base + count (now s) ≤ mostRecords) × (at + readBytes * count (now s) < farthest) ⌝ }
-    ensures { λ r. ⌜ Written same (reading (rowsOf reads) (now (source .entry)) Pending.Nothing (kids (records base (now (s .entry))))) (now (out .entry)) at (now (out .exit)) r
+    ensures { λ r. ⌜ Written asRow (tableReading (rowsOf reads) (now (source .entry)) Pending.Nothing (kids (records base (now (s .entry)))))
+        (now (out .entry)) at (now (out .exit)) r
         × (r + referenceBytes ≤ at + readBytes * count (now (s .entry))) ⌝ }
 {
     let m = count_of(s);

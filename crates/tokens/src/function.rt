@@ -36,7 +36,8 @@ pub enum Naming {
     Is(Name),
 }
 
-fn name_of(s: &[u8], i: usize) -> Name
+// The range of record i, as a name.
+fn token_at(s: &[u8], i: usize) -> Name
     requires { ⌜ i < count (now s) ⌝ }
     ensures { λ r. ⌜ r ≡ nameAt (now (s .entry)) i ⌝ }
 {
@@ -57,7 +58,7 @@ fn first_bare_word(s: &[u8]) -> Name
     let mut i = child_from(s, 1);
     while i < m {
         if kind_at(s, i) == BARE_WORD {
-            return name_of(s, i);
+            return token_at(s, i);
         }
         i = child_from(s, i + 1);
     }
@@ -71,7 +72,7 @@ fn name_at(s: &[u8], i: usize) -> Naming
 {
     let kind = kind_at(s, i);
     if kind == BARE_WORD {
-        return Naming::Is(name_of(s, i));
+        return Naming::Is(token_at(s, i));
     }
     if kind == OPENING_ROUND {
         return Naming::Is(Name::Nameless);
@@ -168,6 +169,7 @@ pub fn count_commas_before(s: &[u8], offset: usize) -> usize
     a.index
 }
 
+// What a token makes of the index, if it counts.
 fn argue_if(counts: bool, a: Arguments, kind: usize) -> Arguments
     requires { ⌜ a .index < 1152921504606846976 ⌝ }
     ensures { λ r. ⌜ (r ≡ cond counts (argued a kind) a) × (r .index ≤ a .index + 1) ⌝ }

@@ -14,12 +14,13 @@ ghost use mathlib.Core.Path.{_≡_};
 ghost use mathlib.Core.Bool.{cond};
 ghost use mathlib.Core.List.{[], _∷_};
 ghost use Prim.Native.Nat.{ℕ, _+_, _<_};
-ghost use Rattle.table.specs.Table.{records};
+ghost use Rattle.table.specs.Table.{records, wordLimit};
 ghost use Rattle.table.specs.Forest.{kids};
 ghost use Rattle.table.specs.Text.{same};
 ghost use Rattle.tokens.specs.LastToken.{counted, entered, lastTwo, isText, isWord, dotted, isJoinWord};
 ghost use Rattle.tokens.specs.inner.Turns.{pushed};
 
+// A name's range, or none.
 pub enum Name {
     Nameless,
     Named(Range),
@@ -31,6 +32,7 @@ pub struct LastTwo {
     pub before: Name,
 }
 
+// The text is this one byte.
 pub fn is_byte(t: &[u8], b: u8) -> bool
     ensures { λ r. ⌜ r ≡ same (now (t .entry)) (b ∷ []) ⌝ }
 {
@@ -60,12 +62,14 @@ fn is_word(source: &[u8], token: Name, word: &[u8]) -> bool
     }
 }
 
+// Does a token of this kind and start count at the offset?
 fn counted(offset: usize, kind: usize, start: usize) -> bool
     ensures { λ r. ⌜ r ≡ counted offset kind start ⌝ }
 {
     (start <= offset) & !((kind == WHITESPACE) | (kind == COMMENT))
 }
 
+// Is a node of this span gone into?
 fn entered(offset: usize, start: usize, end: usize) -> bool
     ensures { λ r. ⌜ r ≡ entered offset start end ⌝ }
 {
@@ -114,7 +118,7 @@ pub fn token_before_offset(s: &[u8], offset: usize) -> LastTwo
 
 // How deep the record after a node of depth d may be: one below it where the node is gone into.
 pub fn reach_below(d: usize, into: bool) -> usize
-    requires { ⌜ d < 4294967296 ⌝ }
+    requires { ⌜ d < wordLimit ⌝ }
     ensures { λ r. ⌜ r ≡ cond into (d + 1) d ⌝ }
 {
     if into { d + 1 } else { d }
@@ -151,6 +155,7 @@ pub fn find_identifier_before_dot(source: &[u8], two: LastTwo) -> Name
     }
 }
 
+// Is the last token ON or USING?
 pub fn is_join_word(source: &[u8], two: LastTwo) -> bool
     ensures { λ r. ⌜ r ≡ isJoinWord (now (source .entry)) two ⌝ }
 {

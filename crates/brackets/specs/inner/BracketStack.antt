@@ -15,8 +15,8 @@ use Rattle.brackets.specs.declared.bracket_matching.Hint.{Hint}
 use Rattle.brackets.specs.declared.bracket_matching.Hint.the-variants.{Opener, NoOpener}
 
 -- an opener of kind k and number i
-abbrev pub packed : ℕ → ℕ → ℕ
-packed k i = 4 * i + (k - openingRound)
+abbrev pub stacked : ℕ → ℕ → ℕ
+stacked k i = 4 * i + (k - openingRound)
 
 -- the first n elements of an array as a stack, its top first
 unfoldable pub stackOf : List ℕ → ℕ → List ℕ
@@ -29,7 +29,7 @@ closedBy [] c = []
 closedBy (o ∷ stack) c = cond (eqb (o % 4) (c - closingRound)) stack (o ∷ stack)
 
 unfoldable pub steppedBy : List ℕ → ℕ → ℕ → List ℕ
-steppedBy stack k i = cond (isOpener k) (packed k i ∷ stack) (cond (isCloser k) (closedBy stack k) stack)
+steppedBy stack k i = cond (isOpener k) (stacked k i ∷ stack) (cond (isCloser k) (closedBy stack k) stack)
 
 unfoldable pub leftBy : List ℕ → Forest → List ℕ
 leftBy stack nil = stack

@@ -7,7 +7,7 @@ use Rattle.table.specs.Forest.{level, kids}
 use Rattle.table.specs.Text.{bytesOf}
 use Rattle.table.specs.worked.Worked.{rec}
 use Rattle.brackets.specs.declared.bracket_matching.Hint.the-variants.{Opener, NoOpener}
-use Rattle.brackets.specs.Brackets.{fits, closed, stepped, left, stackLeft, openersLeft, holding, lastOf, hintOf}
+use Rattle.brackets.specs.Brackets.{fits, closed, stackStep, left, stackLeft, openersLeft, holding, lastOpener, hintOf}
 
 -- ---- brackets: `( ] )` leaves none; `( [ )` leaves both openers; a wrong closer does not empty the stack
 
@@ -20,12 +20,12 @@ page ks = rec 1 0 0 0 ++ brackets ks
 
 pub pairs : openersLeft (page (137 ∷ 141 ∷ 140 ∷ [])) ∷ openersLeft (page (137 ∷ 138 ∷ 140 ∷ [])) ∷ openersLeft (page (140 ∷ 139 ∷ [])) ∷ []
     ≡ [] ∷ (1 ∷ 2 ∷ []) ∷ (2 ∷ []) ∷ []
-unfolding left stepped closed fits kids level from run recordAt word
+unfolding left stackStep closed fits kids level from run recordAt word
 pairs = refl
 
 -- an opener inside a node, closed outside it
 pub across : openersLeft (rec 1 0 0 0 ++ rec 43 1 0 0 ++ rec 137 2 0 0 ++ rec 139 2 0 0 ++ rec 142 1 0 0) ≡ 2 ∷ []
-unfolding left stepped closed fits kids level from run recordAt word
+unfolding left stackStep closed fits kids level from run recordAt word
 across = refl
 
 -- ---- the hint: `)` before `]` before `}`, the last such opener, and none where there is no such opener, whatever others there are
@@ -37,5 +37,5 @@ pub hints :
     (hintOf (bytesOf "expected }, expected )") (stackLeft unclosed) ≡ Opener 3) × (hintOf (bytesOf "was expected ] here") (stackLeft unclosed) ≡ Opener 2)
     × (hintOf (bytesOf "expected }") (stackLeft unclosed) ≡ Opener 4) × (hintOf (bytesOf "expected )") (stackLeft (page (138 ∷ []))) ≡ NoOpener)
     × (hintOf (bytesOf "expected") (stackLeft unclosed) ≡ NoOpener) × (hintOf [] (stackLeft unclosed) ≡ NoOpener)
-unfolding hintOf lastOf holding bytesOf left stepped closed fits kids level from run recordAt word
+unfolding hintOf lastOpener holding bytesOf left stackStep closed fits kids level from run recordAt word
 hints = (refl, refl, refl, refl, refl, refl)

@@ -18,15 +18,15 @@ use Rattle.cursor.specs.declared.context.Answer.the-variants.{GoOn, Give
 use Rattle.path.specs.Path.{oneOf}
 use Rattle.cursor.specs.CursorContext.{lastRule, givenOr}
 use Rattle.cursor.specs.Trailing.{lastClause, pastEnd}
-use Rattle.cursor.specs.PathRules.{Rule, pathRules}
+use Rattle.cursor.specs.PathRules.{NodeRule, pathRules}
 
 -- the rule that speaks of kind k applies
-unfoldable pub applies : ℕ → List Rule → Bool
+unfoldable pub applies : ℕ → List NodeRule → Bool
 applies k [] = false
 applies k (r ∷ rs) = let on : Bool = applies k rs in cond (oneOf (r .kinds) k) (r .applies) on
 
 -- what it gives
-unfoldable pub gives : ℕ → List Rule → CursorContext
+unfoldable pub gives : ℕ → List NodeRule → CursorContext
 gives k [] = Unknown
 gives k (r ∷ rs) = let on : CursorContext = gives k rs in cond (oneOf (r .kinds) k) (r .gives) on
 

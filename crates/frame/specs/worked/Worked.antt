@@ -16,22 +16,22 @@ use Rattle.table.specs.Tokens.{only, tokensOf}
 use Rattle.table.specs.Descent.{path, pathOf, along}
 use Rattle.keywords.specs.Keywords.{isKeyword, keywords}
 use Rattle.scope.specs.Classes.{between, judged, bareword, byParent, classOf, numberOf, entryOf, classes}
-use Rattle.brackets.specs.Brackets.{fits, closed, stepped, left}
-use Rattle.names.specs.Names.{isAs, isPart, isName, direct, unquoted, nameOf, binding, firstOf, lastOf}
-use Rattle.scope.specs.Collection.{entered, collected, collection, ownWith, ownColumns, ownTables}
-use Rattle.names.specs.Bindings.{entry, gathered}
-use Rattle.tables.specs.Tables.{fresh, aliased, handOn, listAlias, reading}
+use Rattle.brackets.specs.Brackets.{fits, closed, stackStep, left}
+use Rattle.names.specs.Names.{isAs, isPart, isName, direct, unquoted, nameOf, binding, firstNamed, lastNamed}
+use Rattle.scope.specs.Collection.{nodeGives, collected, collection, ownWith, ownColumns, ownTables}
+use Rattle.names.specs.Bindings.{entry, boundIn}
+use Rattle.tables.specs.Tables.{fresh, aliased, handOn, listAlias, tableReading}
 use Rattle.statement.specs.Statement.{orElse as orFound, firstFind, enclosingAt}
 use Rattle.path.specs.Path.{deepestOr, onPath, nextOf, isDeepest, deepestOver}
 use Rattle.tokens.specs.LastToken.{lastOr, init, lastTwo, isText, isWord, dotted, isJoinWord}
 use Rattle.tokens.specs.Function.{bareWordIn, orName, functionName, argued, arguments}
 use Rattle.cursor.specs.Trailing.{lastClause, pastClause, pastEnd, trailingIn}
-use Rattle.cursor.specs.PathRules.{tableReference, joined, functionArgument, columnOr, column, pathRules, ruled, orElse, byPath}
+use Rattle.cursor.specs.PathRules.{tableReference, joined, functionArgument, columnOr, column, pathRules, ruled, elseAsk, byPath}
 use Rattle.cursor.specs.CursorContext.{startsAfter, lastRule, givenOr, contextAt}
 use Rattle.cursor.specs.Context.{rangeOf, referenceNumber, coded}
 use Rattle.lines.specs.Lines.{lf, begun, lines, isDigit, value, allDigits, isHex, isSource, isNumbers, faulty, recordRules}
 use Rattle.lines.specs.Frame.{spelt, pairs, firstBytes, fieldsOf}
-use Rattle.report.specs.Output.{digits, decimal, range, fields, ranges, printed, printedList, contextLine, statementLine, answered, questionVerdict, unlessRefused}
+use Rattle.report.specs.Output.{digits, decimal, range, fields, ranges, printed, printedList, contextLine, statementLine, answerText, questionVerdict, unlessRefused}
 use Rattle.frame.specs.Glance.{repliedTo, glanced}
 
 -- ---- a case: an input, and what is printed for it
@@ -129,5 +129,5 @@ expecting [] = []
 expecting (c ∷ cs) = c .prints ∷ expecting cs
 
 worked : printing cases ≡ expecting cases
-unfolding printing expecting cases ended glyph chain word recordAt run from level kids extent stretchEnd misplaced lastEnd badSpan rulesFrom rowBytes listBytes text bytesOf upper says only tokensOf path pathOf along isKeyword keywords between judged bareword byParent classOf numberOf entryOf classes fits closed stepped left isAs isPart isName direct unquoted nameOf binding firstOf lastOf entered collected collection entry gathered fresh aliased handOn listAlias reading ownWith ownColumns ownTables orFound firstFind enclosingAt deepestOr onPath lastOr init lastTwo isText isWord dotted isJoinWord bareWordIn orName functionName argued arguments lastClause pastClause pastEnd trailingIn nextOf isDeepest deepestOver tableReference joined functionArgument columnOr column pathRules ruled orElse byPath startsAfter lastRule givenOr contextAt rangeOf referenceNumber coded begun lines isDigit value allDigits isHex isSource isNumbers faulty recordRules spelt pairs firstBytes fieldsOf digits decimal range fields ranges printed printedList contextLine statementLine answered questionVerdict unlessRefused repliedTo
+unfolding printing expecting cases ended glyph chain word recordAt run from level kids extent stretchEnd misplaced lastEnd badSpan rulesFrom rowBytes listBytes text bytesOf upper says only tokensOf path pathOf along isKeyword keywords between judged bareword byParent classOf numberOf entryOf classes fits closed stackStep left isAs isPart isName direct unquoted nameOf binding firstNamed lastNamed nodeGives collected collection entry boundIn fresh aliased handOn listAlias tableReading ownWith ownColumns ownTables orFound firstFind enclosingAt deepestOr onPath lastOr init lastTwo isText isWord dotted isJoinWord bareWordIn orName functionName argued arguments lastClause pastClause pastEnd trailingIn nextOf isDeepest deepestOver tableReference joined functionArgument columnOr column pathRules ruled elseAsk byPath startsAfter lastRule givenOr contextAt rangeOf referenceNumber coded begun lines isDigit value allDigits isHex isSource isNumbers faulty recordRules spelt pairs firstBytes fieldsOf digits decimal range fields ranges printed printedList contextLine statementLine answerText questionVerdict unlessRefused repliedTo
 worked = refl

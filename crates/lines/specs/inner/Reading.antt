@@ -24,9 +24,9 @@ abbrev pub tableRoom : ℕ
 tableRoom = 16384
 
 -- how many bytes stand before the first LF
-unfoldable pub span : List ℕ → ℕ
-span [] = 0
-span (b ∷ bs) = let on : ℕ = suc (span bs) in cond (eqb b lf) 0 on
+unfoldable pub lineSpan : List ℕ → ℕ
+lineSpan [] = 0
+lineSpan (b ∷ bs) = let on : ℕ = suc (lineSpan bs) in cond (eqb b lf) 0 on
 
 -- the line up to byte e of a text
 abbrev pub lineTo : List ℕ → ℕ → Line

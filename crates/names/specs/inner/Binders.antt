@@ -12,7 +12,7 @@ use Rattle.names.specs.declared.names.Bound.{Bound}
 use Rattle.names.specs.declared.bindings.Binder.{Binder}
 use Rattle.names.specs.declared.bindings.Binder.the-variants.{Item, Alias}
 use Rattle.names.specs.Names.{withItem, aliasIn}
-use Rattle.names.specs.Bindings.{gathered}
+use Rattle.names.specs.Bindings.{boundIn}
 
 -- ---- WITH items or column aliases, by what binds the names
 
@@ -33,4 +33,4 @@ binds Alias src r below = aliasIn src r below
 
 -- what siblings bind
 abbrev pub names : Binder → List ℕ → Forest → List NameBinding
-names binder src = gathered (binderKind binder) (isList binder) (binds binder src)
+names binder src = boundIn (binderKind binder) (isList binder) (binds binder src)

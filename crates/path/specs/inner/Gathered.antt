@@ -10,7 +10,7 @@ use Rattle.table.specs.Kinds.{otherNode, file, queryList, error, insertStatemen
 use Rattle.path.specs.declared.gathered.Next.{Next}
 use Rattle.path.specs.declared.gathered.Next.the-variants.{Deepest, Above}
 use Rattle.path.specs.declared.gathered.Gathered.{Gathered}
-use Rattle.path.specs.Path.{oneOf, isStatement, isDeepest, deepestOver}
+use Rattle.path.specs.Path.{oneOf, trails, isDeepest, deepestOver}
 
 -- that it applies is decided by the kind and what is next below alone
 unfoldable pub decides : ℕ → Next → Bool
@@ -52,7 +52,7 @@ stepped g k i =
       kind = k;
       ruled = s .ruled;
       ruling = s .ruling;
-      statement = cond (isStatement k) (i + 1) (s .statement);
+      statement = cond (trails k) (i + 1) (s .statement);
       query = cond (eqb k subqueryExpression) (i + 1) (s .query);
       constrained = s .constrained || eqb k joinConstraint;
     }

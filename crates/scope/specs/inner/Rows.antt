@@ -32,5 +32,5 @@ width ColumnAliases = bindingBytes
 width TableRefs = referenceBytes
 
 -- how many bytes a node's own part takes at most
-abbrev pub mostBytes : ℕ
-mostBytes = readBytes * mostRecords
+abbrev pub ownBytes : ℕ
+ownBytes = readBytes * mostRecords

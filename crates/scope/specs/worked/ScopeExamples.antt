@@ -6,10 +6,10 @@ use Rattle.table.specs.Kinds.{file, selectStatement, withClause, selectClause, 
 use Rattle.table.specs.Table.{word, recordAt, run, from}
 use Rattle.table.specs.Forest.{level, kids, extent, stretchEnd}
 use Rattle.table.specs.Text.{bytesOf, upper, text, says}
-use Rattle.names.specs.Names.{isAs, isPart, isName, direct, unquoted, nameOf, binding, firstOf, lastOf}
-use Rattle.scope.specs.Collection.{entered, collected, collection, ownWith, ownColumns, ownTables}
-use Rattle.names.specs.Bindings.{entry, gathered, bindingRow}
-use Rattle.tables.specs.Tables.{fresh, aliased, handOn, listAlias, reading, referenceRow}
+use Rattle.names.specs.Names.{isAs, isPart, isName, direct, unquoted, nameOf, binding, firstNamed, lastNamed}
+use Rattle.scope.specs.Collection.{nodeGives, collected, collection, ownWith, ownColumns, ownTables}
+use Rattle.names.specs.Bindings.{entry, boundIn, bindingRow}
+use Rattle.tables.specs.Tables.{fresh, aliased, handOn, listAlias, tableReading, referenceRow}
 use Rattle.scope.specs.Scope.{withNames, tableAliases, columnAliases, tableRefs}
 
 -- a record of kind k, depth d, start a and end e, each below 256
@@ -27,7 +27,7 @@ joined =
 
 joined-refs : map referenceRow (tableRefs [] joined 0)
     ≡ (2 ∷ none ∷ none ∷ 5 ∷ 6 ∷ none ∷ none ∷ []) ∷ (5 ∷ none ∷ none ∷ 12 ∷ 13 ∷ none ∷ none ∷ []) ∷ (5 ∷ none ∷ none ∷ 12 ∷ 13 ∷ none ∷ none ∷ []) ∷ []
-unfolding collection collected entered ownWith ownColumns ownTables gathered entry reading handOn listAlias aliased fresh firstOf lastOf binding nameOf unquoted isName isAs says text upper bytesOf isPart direct kids level from run recordAt word stretchEnd extent
+unfolding collection collected nodeGives ownWith ownColumns ownTables boundIn entry tableReading handOn listAlias aliased fresh firstNamed lastNamed binding nameOf unquoted isName isAs says text upper bytesOf isPart direct kids level from run recordAt word stretchEnd extent
 joined-refs = refl
 
 -- P: three name parts give no reference. The alias behind them has none pending, and gives no entry
@@ -37,11 +37,11 @@ three =
     ++ rec tableAlias 1 11 12 ++ rec bareWord 2 11 12
 
 three-refs : map referenceRow (tableRefs [] three 0) ≡ []
-unfolding collection collected entered ownWith ownColumns ownTables gathered entry reading handOn listAlias aliased fresh firstOf lastOf binding nameOf unquoted isName isAs says text upper bytesOf isPart direct kids level from run recordAt word stretchEnd extent
+unfolding collection collected nodeGives ownWith ownColumns ownTables boundIn entry tableReading handOn listAlias aliased fresh firstNamed lastNamed binding nameOf unquoted isName isAs says text upper bytesOf isPart direct kids level from run recordAt word stretchEnd extent
 three-refs = refl
 
 three-aliases : map bindingRow (tableAliases [] three 0) ≡ []
-unfolding collection collected entered ownWith ownColumns ownTables gathered entry reading handOn listAlias aliased fresh firstOf lastOf binding nameOf unquoted isName isAs says text upper bytesOf isPart direct kids level from run recordAt word stretchEnd extent
+unfolding collection collected nodeGives ownWith ownColumns ownTables boundIn entry tableReading handOn listAlias aliased fresh firstNamed lastNamed binding nameOf unquoted isName isAs says text upper bytesOf isPart direct kids level from run recordAt word stretchEnd extent
 three-aliases = refl
 
 -- `FROM a r (FROM b r)`: the inner and the outer query both name an alias r; each root has its own alone
@@ -51,19 +51,19 @@ both =
     ++ rec subqueryExpression 2 9 19 ++ rec fromClause 3 10 18 ++ rec tableIdentifier 4 15 16 ++ rec bareWord 5 15 16 ++ rec tableAlias 4 17 18 ++ rec bareWord 5 17 18
 
 both-outer-refs : map referenceRow (tableRefs [] both 0) ≡ (2 ∷ none ∷ none ∷ 5 ∷ 6 ∷ 7 ∷ 8 ∷ []) ∷ []
-unfolding collection collected entered ownWith ownColumns ownTables gathered entry reading handOn listAlias aliased fresh firstOf lastOf binding nameOf unquoted isName isAs says text upper bytesOf isPart direct kids level from run recordAt word stretchEnd extent
+unfolding collection collected nodeGives ownWith ownColumns ownTables boundIn entry tableReading handOn listAlias aliased fresh firstNamed lastNamed binding nameOf unquoted isName isAs says text upper bytesOf isPart direct kids level from run recordAt word stretchEnd extent
 both-outer-refs = refl
 
 both-outer-aliases : map bindingRow (tableAliases [] both 0) ≡ (7 ∷ 8 ∷ 7 ∷ 8 ∷ 7 ∷ 8 ∷ []) ∷ []
-unfolding collection collected entered ownWith ownColumns ownTables gathered entry reading handOn listAlias aliased fresh firstOf lastOf binding nameOf unquoted isName isAs says text upper bytesOf isPart direct kids level from run recordAt word stretchEnd extent
+unfolding collection collected nodeGives ownWith ownColumns ownTables boundIn entry tableReading handOn listAlias aliased fresh firstNamed lastNamed binding nameOf unquoted isName isAs says text upper bytesOf isPart direct kids level from run recordAt word stretchEnd extent
 both-outer-aliases = refl
 
 both-inner-refs : map referenceRow (tableRefs [] both 6) ≡ (8 ∷ none ∷ none ∷ 15 ∷ 16 ∷ 17 ∷ 18 ∷ []) ∷ []
-unfolding collection collected entered ownWith ownColumns ownTables gathered entry reading handOn listAlias aliased fresh firstOf lastOf binding nameOf unquoted isName isAs says text upper bytesOf isPart direct kids level from run recordAt word stretchEnd extent
+unfolding collection collected nodeGives ownWith ownColumns ownTables boundIn entry tableReading handOn listAlias aliased fresh firstNamed lastNamed binding nameOf unquoted isName isAs says text upper bytesOf isPart direct kids level from run recordAt word stretchEnd extent
 both-inner-refs = refl
 
 both-inner-aliases : map bindingRow (tableAliases [] both 6) ≡ (17 ∷ 18 ∷ 17 ∷ 18 ∷ 17 ∷ 18 ∷ []) ∷ []
-unfolding collection collected entered ownWith ownColumns ownTables gathered entry reading handOn listAlias aliased fresh firstOf lastOf binding nameOf unquoted isName isAs says text upper bytesOf isPart direct kids level from run recordAt word stretchEnd extent
+unfolding collection collected nodeGives ownWith ownColumns ownTables boundIn entry tableReading handOn listAlias aliased fresh firstNamed lastNamed binding nameOf unquoted isName isAs says text upper bytesOf isPart direct kids level from run recordAt word stretchEnd extent
 both-inner-aliases = refl
 
 -- the source of the next one: ``WITH x aS 1,As `z```
@@ -78,11 +78,11 @@ listed =
     ++ rec withExpressionItem 1 12 14 ++ rec bareWord 2 12 14 ++ rec fromClause 1 5 6 ++ rec tableIdentifier 2 5 6 ++ rec bareWord 3 5 6
 
 listed-names : map bindingRow (withNames items listed 0) ≡ (5 ∷ 6 ∷ 5 ∷ 6 ∷ 5 ∷ 11 ∷ []) ∷ (15 ∷ 18 ∷ 16 ∷ 17 ∷ 12 ∷ 18 ∷ []) ∷ []
-unfolding collection collected entered ownWith ownColumns ownTables gathered entry reading handOn listAlias aliased fresh firstOf lastOf binding nameOf unquoted isName isAs says text upper bytesOf isPart direct kids level from run recordAt word stretchEnd extent
+unfolding collection collected nodeGives ownWith ownColumns ownTables boundIn entry tableReading handOn listAlias aliased fresh firstNamed lastNamed binding nameOf unquoted isName isAs says text upper bytesOf isPart direct kids level from run recordAt word stretchEnd extent
 listed-names = refl
 
 listed-refs : map referenceRow (tableRefs items listed 0) ≡ []
-unfolding collection collected entered ownWith ownColumns ownTables gathered entry reading handOn listAlias aliased fresh firstOf lastOf binding nameOf unquoted isName isAs says text upper bytesOf isPart direct kids level from run recordAt word stretchEnd extent
+unfolding collection collected nodeGives ownWith ownColumns ownTables boundIn entry tableReading handOn listAlias aliased fresh firstNamed lastNamed binding nameOf unquoted isName isAs says text upper bytesOf isPart direct kids level from run recordAt word stretchEnd extent
 listed-refs = refl
 
 -- the source of the next one: ``1 AS "",2 `,3 b c``
@@ -96,7 +96,7 @@ chosen =
     ++ rec expressionList 2 8 17 ++ rec columnAlias 3 10 11 ++ rec quotedIdentifier 4 10 11 ++ rec columnList 3 14 17 ++ rec columnAlias 4 14 17 ++ rec bareWord 5 14 15 ++ rec bareWord 5 16 17
 
 chosen-aliases : map bindingRow (columnAliases columns chosen 0) ≡ (5 ∷ 7 ∷ 6 ∷ 6 ∷ 2 ∷ 7 ∷ []) ∷ (10 ∷ 11 ∷ 10 ∷ 11 ∷ 10 ∷ 11 ∷ []) ∷ (16 ∷ 17 ∷ 16 ∷ 17 ∷ 14 ∷ 17 ∷ []) ∷ []
-unfolding collection collected entered ownWith ownColumns ownTables gathered entry reading handOn listAlias aliased fresh firstOf lastOf binding nameOf unquoted isName isAs says text upper bytesOf isPart direct kids level from run recordAt word stretchEnd extent
+unfolding collection collected nodeGives ownWith ownColumns ownTables boundIn entry tableReading handOn listAlias aliased fresh firstNamed lastNamed binding nameOf unquoted isName isAs says text upper bytesOf isPart direct kids level from run recordAt word stretchEnd extent
 chosen-aliases = refl
 
 -- the source of the next one: ``FROM `d`.`t` `r` s``
@@ -110,11 +110,11 @@ twice =
     ++ rec tableAlias 1 13 16 ++ rec quotedIdentifier 2 13 16 ++ rec tableAlias 1 17 18 ++ rec bareWord 2 17 18
 
 twice-refs : map referenceRow (tableRefs quoted twice 0) ≡ (1 ∷ 5 ∷ 8 ∷ 9 ∷ 12 ∷ 17 ∷ 18 ∷ []) ∷ []
-unfolding collection collected entered ownWith ownColumns ownTables gathered entry reading handOn listAlias aliased fresh firstOf lastOf binding nameOf unquoted isName isAs says text upper bytesOf isPart direct kids level from run recordAt word stretchEnd extent
+unfolding collection collected nodeGives ownWith ownColumns ownTables boundIn entry tableReading handOn listAlias aliased fresh firstNamed lastNamed binding nameOf unquoted isName isAs says text upper bytesOf isPart direct kids level from run recordAt word stretchEnd extent
 twice-refs = refl
 
 twice-aliases : map bindingRow (tableAliases quoted twice 0) ≡ (13 ∷ 16 ∷ 14 ∷ 15 ∷ 13 ∷ 16 ∷ []) ∷ (17 ∷ 18 ∷ 17 ∷ 18 ∷ 17 ∷ 18 ∷ []) ∷ []
-unfolding collection collected entered ownWith ownColumns ownTables gathered entry reading handOn listAlias aliased fresh firstOf lastOf binding nameOf unquoted isName isAs says text upper bytesOf isPart direct kids level from run recordAt word stretchEnd extent
+unfolding collection collected nodeGives ownWith ownColumns ownTables boundIn entry tableReading handOn listAlias aliased fresh firstNamed lastNamed binding nameOf unquoted isName isAs says text upper bytesOf isPart direct kids level from run recordAt word stretchEnd extent
 twice-aliases = refl
 
 -- below a table expression none is pending, so its first alias gives no entry; its reference comes before the waiting outer one, which still gets its alias
@@ -124,9 +124,9 @@ waiting =
     ++ rec tableIdentifier 2 7 8 ++ rec bareWord 3 7 8 ++ rec tableAlias 1 10 11 ++ rec bareWord 2 10 11
 
 waiting-refs : map referenceRow (tableRefs [] waiting 0) ≡ (6 ∷ none ∷ none ∷ 7 ∷ 8 ∷ none ∷ none ∷ []) ∷ (1 ∷ none ∷ none ∷ 5 ∷ 6 ∷ 10 ∷ 11 ∷ []) ∷ []
-unfolding collection collected entered ownWith ownColumns ownTables gathered entry reading handOn listAlias aliased fresh firstOf lastOf binding nameOf unquoted isName isAs says text upper bytesOf isPart direct kids level from run recordAt word stretchEnd extent
+unfolding collection collected nodeGives ownWith ownColumns ownTables boundIn entry tableReading handOn listAlias aliased fresh firstNamed lastNamed binding nameOf unquoted isName isAs says text upper bytesOf isPart direct kids level from run recordAt word stretchEnd extent
 waiting-refs = refl
 
 waiting-aliases : map bindingRow (tableAliases [] waiting 0) ≡ (10 ∷ 11 ∷ 10 ∷ 11 ∷ 10 ∷ 11 ∷ []) ∷ []
-unfolding collection collected entered ownWith ownColumns ownTables gathered entry reading handOn listAlias aliased fresh firstOf lastOf binding nameOf unquoted isName isAs says text upper bytesOf isPart direct kids level from run recordAt word stretchEnd extent
+unfolding collection collected nodeGives ownWith ownColumns ownTables boundIn entry tableReading handOn listAlias aliased fresh firstNamed lastNamed binding nameOf unquoted isName isAs says text upper bytesOf isPart direct kids level from run recordAt word stretchEnd extent
 waiting-aliases = refl

@@ -17,13 +17,13 @@ abbrev pub below : ℕ → ℕ → ℕ
 below k d = cond (isToken k) d (d + 1)
 
 -- how deep record i may be
-unfoldable pub deepest : List ℕ → ℕ → ℕ
-deepest t zero = 0
-deepest t (suc i) = below (kindAt t i) (depthAt t i)
+unfoldable pub deepestNext : List ℕ → ℕ → ℕ
+deepestNext t zero = 0
+deepestNext t (suc i) = below (kindAt t i) (depthAt t i)
 
 -- what is known before record i
 unfoldable pub knownAt : List ℕ → ℕ → Known
-knownAt t i = record { deepest = deepest t i; end = lastEnd t i }
+knownAt t i = record { deepest = deepestNext t i; end = lastEnd t i }
 
 -- after a record
 unfoldable pub after : Known → Rec → Known

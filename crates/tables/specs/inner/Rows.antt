@@ -11,8 +11,8 @@ use Rattle.tables.specs.Tables.{Listing, referenceBytes, referenceRow}
 use Rattle.names.specs.Bindings.{bindingRow}
 
 -- a row is its own numbers
-abbrev pub same : List ℕ → List ℕ
-same e = e
+abbrev pub asRow : List ℕ → List ℕ
+asRow e = e
 
 -- what a table reading writes
 unfoldable pub rowsOf : Reads → Listing (List ℕ)

@@ -14,7 +14,7 @@ use Rattle.brackets.proofs.bracket_matching.+collect_brackets.Tie.{clos
 use Rattle.brackets.proofs.bracket_matching.collect_brackets.Reads as collect-brackets
 use Rattle.brackets.proofs.bracket_matching.collect_brackets.Kinds as collect-brackets-kinds
 use Rattle.brackets.proofs.bracket_matching.+collect_brackets.Lts-collect_brackets as collect-brackets-lts
-use Rattle.brackets.proofs.bracket_matching.step.Reads as step-reads
+use Rattle.brackets.proofs.bracket_matching.stack_step.Reads as stack-step-reads
 use Rattle.table.proofs.record.count_of.Reads as count-of-reads
 use Rattle.table.proofs.record.depth_at.Reads as depth-at-reads
 use Rattle.table.proofs.record.kind_at.Reads as kind-at-reads
@@ -62,8 +62,8 @@ pub +collect-brackets-spec : {M : Type 1} → statement M
   rest-from-reads.Learnt,
   collect-brackets-below t,
   collect-brackets.Post,
-  step-reads.Asked,
-  step-reads.Learnt,
+  stack-step-reads.Asked,
+  stack-step-reads.Learnt,
 )
     (collect-brackets-at t)
     collect-brackets.Post
@@ -84,11 +84,11 @@ pub +collect-brackets-spec : {M : Type 1} → statement M
     (λ c. omega arith)  -- add-i
     (λ c. omega arith)  -- loop-less
     (λ c. (omega arith, visit-node (c .before .before .before .before .before .before .before .before .before .before .before .loop .inv .1) (omega arith) (omega (arith, c .before .before .before .before .before .before .before .before .before .before .before .loop .inv .1 .level (omega arith))) (omega arith) (c .before .before .before .before .before .rest-from .ensures .0) (c .before .before .before .collect-brackets .ensures .1) refl (λ f. left-node _ _ _ _ _ f (c .before .before .before .collect-brackets .ensures .0))))  -- loop-again
-    (λ c. omega arith)  -- add-step
-    (λ c κs. omega arith)  -- step-requires
+    (λ c. omega arith)  -- add-stack-step
+    (λ c κs. omega arith)  -- stack-step-requires
     (λ c. omega arith)  -- add-level-from
     (λ c κs. omega arith)  -- level-from-requires-2
     (λ c. omega arith)  -- loop-less-2
-    (λ c. (omega arith, visit-token (c .before .before .before .before .before .before .before .before .before .before .loop .inv .1) (omega arith) (omega (arith, c .before .before .before .before .before .before .before .before .before .before .loop .inv .1 .level (omega arith))) (omega arith) (omega arith) (c .level-from2 .ensures) (λ f. left-token _ _ _ _ (c .before .before .before .step .ensures .0) (c .before .before .before .before .before .before .kind-at .ensures .0) refl f)))  -- loop-again-2
+    (λ c. (omega arith, visit-token (c .before .before .before .before .before .before .before .before .before .before .loop .inv .1) (omega arith) (omega (arith, c .before .before .before .before .before .before .before .before .before .before .loop .inv .1 .level (omega arith))) (omega arith) (omega arith) (c .level-from2 .ensures) (λ f. left-token _ _ _ _ (c .before .before .before .stack-step .ensures .0) (c .before .before .before .before .before .before .kind-at .ensures .0) refl f)))  -- loop-again-2
     (λ c. c .before .loop .inv .0 .3)  -- same-length-2
     (λ c. (sym (left-nil _) ∙ visit-end (c .before .loop .inv .1) (omega arith) .0, visit-end (c .before .loop .inv .1) (omega arith) .1, omega arith, omega arith, omega arith))  -- returns-2

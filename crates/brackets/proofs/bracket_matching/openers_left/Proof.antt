@@ -1,4 +1,4 @@
-use Rattle.brackets.specs.Brackets.{row}
+use Rattle.brackets.specs.Brackets.{openerRow}
 use Rattle.table.proofs.Sense.{admitted-tidy}
 use Rattle.table.proofs.Writes.{list-refused, list-admitted}
 use Rattle.table.specs.Rules.{verdict}
@@ -17,6 +17,6 @@ openers-left-spec =
     (λ c. search needs)  -- enum-known-k
     (λ c. search needs)  -- enum-told
     (λ c κs. let a = c .before .before .before .before .before .before .before .args in let w = admitted-tidy (a .table .now) (length (a .source .now)) 0 (cc) in (w .some, w .few))  -- list-openers-requires
-    (λ c. list-refused row _ _ _ (cc))  -- returns
+    (λ c. list-refused openerRow _ _ _ (cc))  -- returns
     (λ c. search needs)  -- same-length
-    (λ c. list-admitted row _ _ _ (cc) (c .before .before .list-openers .ensures)))  -- returns-2
+    (λ c. list-admitted openerRow _ _ _ (cc) (c .before .before .list-openers .ensures)))  -- returns-2

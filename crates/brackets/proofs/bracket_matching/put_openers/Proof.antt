@@ -1,6 +1,6 @@
 use Rattle.brackets.proofs.BracketLaws.{opener-none, opener-put}
 use Rattle.brackets.specs.inner.BracketStack.{unpacked}
-use Rattle.brackets.specs.Brackets.{row}
+use Rattle.brackets.specs.Brackets.{openerRow}
 use Rattle.table.specs.Lists.{Written}
 use lib.ListN.{length, take}
 use mathlib.Core.List.{map}
@@ -11,7 +11,7 @@ use Rattle.brackets.proofs.bracket_matching.put_openers.Statement.{stat
 use Rattle.brackets.proofs.bracket_matching.put_openers.Tie as tie
 
 abbrev Inv-loop : tie.InvT-loop
-Inv-loop stack n out₀ at₀ j₀ out at j = ((j ≤ n) × (at ≡ 4 * j) × (length out ≡ length out₀)) × Written row (map unpacked (take j stack)) out₀ 0 out at
+Inv-loop stack n out₀ at₀ j₀ out at j = ((j ≤ n) × (at ≡ 4 * j) × (length out ≡ length out₀)) × Written openerRow (map unpacked (take j stack)) out₀ 0 out at
 
 abbrev μ-loop : tie.MeasureT-loop
 μ-loop stack n out₀ at₀ j₀ out at j = n - j

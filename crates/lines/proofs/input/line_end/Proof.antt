@@ -1,4 +1,4 @@
-use Rattle.lines.specs.inner.Reading.{span}
+use Rattle.lines.specs.inner.Reading.{lineSpan}
 use Rattle.lines.proofs.Reading.{span-next, span-found, span-end}
 use lib.ListN.{length, drop}
 use mathlib.Core.Path.{_≡_, refl}
@@ -8,7 +8,7 @@ use Rattle.lines.proofs.input.line_end.Statement.{statement}
 use Rattle.lines.proofs.input.line_end.Tie as tie
 
 abbrev Inv-loop : tie.InvT-loop
-Inv-loop text i₀ i = (i ≤ length text) × (span text ≡ i + span (drop i text))
+Inv-loop text i₀ i = (i ≤ length text) × (lineSpan text ≡ i + lineSpan (drop i text))
 
 abbrev μ-loop : tie.MeasureT-loop
 μ-loop text i₀ i = length text - i

@@ -1,4 +1,4 @@
-use Rattle.lines.specs.Frame.{spelt, number}
+use Rattle.lines.specs.Frame.{spelt, hexNumber}
 use Rattle.lines.proofs.Reading.{number-next, number-end, grown, roomy}
 use lib.ListN.{length, drop}
 use mathlib.Core.Path.{_≡_, refl}
@@ -8,7 +8,7 @@ use Rattle.lines.proofs.input.number.Statement.{statement}
 use Rattle.lines.proofs.input.number.Tie as tie
 
 abbrev Inv-loop : tie.InvT-loop
-Inv-loop digits v₀ i₀ v i = (i ≤ length digits) × (v < 16 ^ i) × (number digits ≡ spelt v (drop i digits))
+Inv-loop digits v₀ i₀ v i = (i ≤ length digits) × (v < 16 ^ i) × (hexNumber digits ≡ spelt v (drop i digits))
 
 abbrev μ-loop : tie.MeasureT-loop
 μ-loop digits v₀ i₀ v i = length digits - i

@@ -1,4 +1,4 @@
-use Rattle.lines.specs.Frame.{number, fieldsOf}
+use Rattle.lines.specs.Frame.{hexNumber, fieldsOf}
 use Rattle.lines.proofs.Reading.{text-most}
 use lib.ListN.{length}
 use mathlib.Core.Path.{ap, _∙_}
@@ -23,4 +23,4 @@ put-record-spec =
     (λ c. search needs)  -- slice-aggregate-put-entry
     (λ c κs. search needs)  -- put-entry-requires
     (λ c. search needs)  -- same-length
-    (λ c. rw (← ap number (c .before .before .before .before .before .before .before .before .before .before .before .before .text-of .ensures), ← c .before .before .before .before .before .before .before .before .before .before .before .number .ensures, ← ap number (c .before .before .before .before .before .before .before .before .before .before .text-of2 .ensures), ← c .before .before .before .before .before .before .before .before .before .number2 .ensures, ← ap number (c .before .before .before .before .before .before .before .before .text-of3 .ensures), ← c .before .before .before .before .before .before .before .number3 .ensures, ← ap number (c .before .before .before .before .before .before .text-of4 .ensures), ← c .before .before .before .before .before .number4 .ensures) (c .before .before .put-entry .ensures .0)))  -- returns
+    (λ c. rw (← ap hexNumber (c .before .before .before .before .before .before .before .before .before .before .before .before .text-of .ensures), ← c .before .before .before .before .before .before .before .before .before .before .before .number .ensures, ← ap hexNumber (c .before .before .before .before .before .before .before .before .before .before .text-of2 .ensures), ← c .before .before .before .before .before .before .before .before .before .number2 .ensures, ← ap hexNumber (c .before .before .before .before .before .before .before .before .text-of3 .ensures), ← c .before .before .before .before .before .before .before .number3 .ensures, ← ap hexNumber (c .before .before .before .before .before .before .text-of4 .ensures), ← c .before .before .before .before .before .number4 .ensures) (c .before .before .put-entry .ensures .0)))  -- returns

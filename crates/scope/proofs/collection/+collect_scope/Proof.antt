@@ -1,6 +1,6 @@
 use Rattle.scope.proofs.Turns.{collection-with, collection-on, collected-none, collected-token, collected-sub, collected-node, visit-yes, visit-no}
-use Rattle.tables.specs.inner.Rows.{same}
-use Rattle.scope.specs.inner.Rows.{ownRows, mostBytes}
+use Rattle.tables.specs.inner.Rows.{asRow}
+use Rattle.scope.specs.inner.Rows.{ownRows, ownBytes}
 use Rattle.scope.specs.Collection.{collected}
 use Rattle.table.proofs.Writes.{written-none, written-then, writing, writing-turn, writing-end}
 use Rattle.table.proofs.Walks.{Walk, walk-start, walk-end, walk-next, walk-node}
@@ -41,8 +41,8 @@ collect-scope-below t =
 
 abbrev collect-scope-Inv-loop : collect-scope-lts.InvT-loop
 collect-scope-Inv-loop asked s base source out₀ at m next₀ i₀ out next i =
-    ((1 ≤ i) × (i ≤ m) × (next ≤ at + mostBytes * i) × (length out ≡ length out₀))
-    × Walk s base i (writing same (collected (ownRows asked source)) out next) (writing same (collected (ownRows asked source)) out₀ next₀ (kids (records base s)))
+    ((1 ≤ i) × (i ≤ m) × (next ≤ at + ownBytes * i) × (length out ≡ length out₀))
+    × Walk s base i (writing asRow (collected (ownRows asked source)) out next) (writing asRow (collected (ownRows asked source)) out₀ next₀ (kids (records base s)))
 
 abbrev collect-scope-μ-loop : collect-scope-lts.MeasureT-loop
 collect-scope-μ-loop asked s base source out₀ at m next₀ i₀ out next i = m - i
@@ -73,7 +73,7 @@ module _ (t : ℕ) where
   returns c = (rw (collection-with _ _ _ (c .before .kind-at .ensures .0) (c .if1 .taken)) (c .before .before .before .before .own-part .ensures .0), omega arith)
 
   loop-holds : collect-scope-lts.Need-loop-holds (claims t) (collect-scope-at t) collect-scope.Post collect-scope-Inv-loop collect-scope-μ-loop
-  loop-holds c = (omega arith, walk-start _ _ (writing same (collected _) _ _) (omega arith) (c .child-from .ensures))
+  loop-holds c = (omega arith, walk-start _ _ (writing asRow (collected _) _ _) (omega arith) (c .child-from .ensures))
 
   collect-scope-requires : collect-scope-lts.Need-collect-scope-requires (claims t) (collect-scope-at t) collect-scope.Post collect-scope-Inv-loop collect-scope-μ-loop
   collect-scope-requires c κs = (omega arith, (omega arith, omega arith, omega arith))
@@ -82,22 +82,22 @@ module _ (t : ℕ) where
   loop-again c = (
     omega arith,
     walk-node (c .before .before .before .before .before .before .before .before .before .before .before .loop .inv .1) (omega arith) (omega (arith, visit-yes (c .before .before .before .before .before .before .before .before .before .kind-at2 .result) (c .before .before .before .before .before .before .before .before .visits .ensures) (c .before .before .before .before .before .before .before .if2 .taken) .0)) (c .before .before .before .before .before .before .stretch-of .ensures .0) (omega arith) (c .child-from2 .ensures)
-        (λ f. writing-turn same (collected _) (collected _) _ _ (collected-node _ _ _ _ f _ (omega arith) (c .before .before .before .before .before .before .stretch-of .ensures .0) (λ e. visit-yes (c .before .before .before .before .before .before .before .before .before .kind-at2 .result) (c .before .before .before .before .before .before .before .before .visits .ensures) (c .before .before .before .before .before .before .before .if2 .taken) .1 (c .before .before .before .before .before .before .before .before .before .kind-at2 .ensures .0 ∙ e))) (c .before .before .before .before .collect-scope .ensures .0)),
+        (λ f. writing-turn asRow (collected _) (collected _) _ _ (collected-node _ _ _ _ f _ (omega arith) (c .before .before .before .before .before .before .stretch-of .ensures .0) (λ e. visit-yes (c .before .before .before .before .before .before .before .before .before .kind-at2 .result) (c .before .before .before .before .before .before .before .before .visits .ensures) (c .before .before .before .before .before .before .before .if2 .taken) .1 (c .before .before .before .before .before .before .before .before .before .kind-at2 .ensures .0 ∙ e))) (c .before .before .before .before .collect-scope .ensures .0)),
   )
 
   loop-again-2 : collect-scope-lts.Need-loop-again-2 (claims t) (collect-scope-at t) collect-scope.Post collect-scope-Inv-loop collect-scope-μ-loop
   loop-again-2 c = (
     omega arith,
     walk-next (c .before .before .before .before .before .loop .inv .1) (omega arith) (c .child-from3 .ensures)
-        (λ g f. writing-turn same (collected _) (collected _) _ _ (collected-token _ _ _ _ f) (written-none same _ _))
-        (λ g b f. writing-turn same (collected _) (collected _) _ _ (collected-sub _ _ _ _ f b (sym (c .before .before .before .kind-at2 .ensures .0) ∙ visit-no (c .before .before .before .kind-at2 .result) (c .before .before .visits .ensures) (c .before .if2 .left) (omega arith))) (written-none same _ _)),
+        (λ g f. writing-turn asRow (collected _) (collected _) _ _ (collected-token _ _ _ _ f) (written-none asRow _ _))
+        (λ g b f. writing-turn asRow (collected _) (collected _) _ _ (collected-sub _ _ _ _ f b (sym (c .before .before .before .kind-at2 .ensures .0) ∙ visit-no (c .before .before .before .kind-at2 .result) (c .before .before .visits .ensures) (c .before .if2 .left) (omega arith))) (written-none asRow _ _)),
   )
 
   same-length-2 : collect-scope-lts.Need-same-length-2 (claims t) (collect-scope-at t) collect-scope.Post collect-scope-Inv-loop collect-scope-μ-loop
   same-length-2 c = omega arith
 
   returns-2 : collect-scope-lts.Need-returns-2 (claims t) (collect-scope-at t) collect-scope.Post collect-scope-Inv-loop collect-scope-μ-loop
-  returns-2 c = (rw (collection-on _ _ _ (c .before .before .before .before .kind-at .ensures .0) (c .before .before .before .if1 .left)) (written-then same (c .before .before .before .before .before .before .before .own-part .ensures .0) (writing-end same (collected _) _ (collected-none _) (walk-end (c .before .loop .inv .1) (omega arith)))), omega arith)
+  returns-2 c = (rw (collection-on _ _ _ (c .before .before .before .before .kind-at .ensures .0) (c .before .before .before .if1 .left)) (written-then asRow (c .before .before .before .before .before .before .before .own-part .ensures .0) (writing-end asRow (collected _) _ (collected-none _) (walk-end (c .before .loop .inv .1) (omega arith)))), omega arith)
 
 pub +collect-scope-spec : {M : Type 1} → statement M
 +collect-scope-spec =

@@ -1,5 +1,5 @@
 use Rattle.scope.proofs.Turns.{tables-yes, tables-no}
-use Rattle.tables.specs.inner.Rows.{same}
+use Rattle.tables.specs.inner.Rows.{asRow}
 use Rattle.table.proofs.Writes.{written-none}
 use native.Mathlib.Omega.{arith}
 use borrow.Author.Needs.{needs}
@@ -14,4 +14,4 @@ own-tables-spec =
     (λ c κs. search needs)  -- collect-table-refs-requires
     (λ c. search needs)  -- same-length
     (λ c. (rw (← c .before .before .before .before .before .kind-at .ensures .0, tables-yes _ (c .before .before .before .before .before .kind-at .result) _ _ (c .before .before .before .before .if1 .taken)) (c .before .before .collect-table-refs .ensures .0), omega arith))  -- returns
-    (λ c. (rw (← c .before .kind-at .ensures .0, tables-no _ (c .before .kind-at .result) _ _ (c .if1 .left)) (written-none same _ _), omega arith)))  -- returns-2
+    (λ c. (rw (← c .before .kind-at .ensures .0, tables-no _ (c .before .kind-at .result) _ _ (c .if1 .left)) (written-none asRow _ _), omega arith)))  -- returns-2

@@ -7,7 +7,7 @@ use Rattle.table.specs.Table.{kindAt, records}
 use Rattle.table.specs.Forest.{kids}
 use Rattle.table.proofs.Visits.{Visiting, visit-start, visit-end, visit-up, visit-token, visit-node}
 use Rattle.table.proofs.Writes.{writing, writing-step, writing-end}
-use Rattle.scope.specs.Classes.{classes, row}
+use Rattle.scope.specs.Classes.{classes, classRow}
 use Rattle.scope.proofs.ClassLaws.{class-nil, class-token, class-node}
 use borrow.Fn.Kinds.{In}
 use borrow.Fn.PlainCycle.{Measures, is, falls, and}
@@ -48,7 +48,7 @@ collect-tokens-below t =
 abbrev collect-tokens-Inv-loop : collect-tokens-lts.InvT-loop
 collect-tokens-Inv-loop words starts s source out₀ at m parent k next₀ i₀ out next i =
     ((1 ≤ i) × (i ≤ m) × (next ≤ at + 12 * i) × (length out ≡ length out₀))
-    × ((base : ℕ) → Visiting s base i (writing row (classes source (kindAt s 0)) out next) (writing row (classes source (kindAt s 0)) out₀ at (kids (records base s))))
+    × ((base : ℕ) → Visiting s base i (writing classRow (classes source (kindAt s 0)) out next) (writing classRow (classes source (kindAt s 0)) out₀ at (kids (records base s))))
 
 abbrev collect-tokens-μ-loop : collect-tokens-lts.MeasureT-loop
 collect-tokens-μ-loop words starts s source out₀ at m parent k next₀ i₀ out next i = m - i
@@ -85,10 +85,10 @@ pub +collect-tokens-spec : {M : Type 1} → statement M
     (λ c κs. omega arith)  -- depth-at-requires
     (λ c. omega arith)  -- add-k
     (λ c κs. omega arith)  -- level-from-requires
-    (λ c. (omega arith, λ base. visit-start _ base (writing row (classes _ _) _ _) (omega arith) (omega arith) (c .level-from .ensures)))  -- loop-holds
+    (λ c. (omega arith, λ base. visit-start _ base (writing classRow (classes _ _) _ _) (omega arith) (omega arith) (c .level-from .ensures)))  -- loop-holds
     (λ c κs. omega arith)  -- depth-at-requires-2
     (λ c. c .before .before .before .loop .inv .0 .3)  -- same-length
-    (λ c. ((λ base. writing-end row (classes _ _) _ (class-nil _ _) (visit-up (c .before .before .before .loop .inv .1 base) (omega arith) (omega arith) .0)), visit-up (c .before .before .before .loop .inv .1 0) (omega arith) (omega arith) .1, omega arith, omega arith, omega arith))  -- returns
+    (λ c. ((λ base. writing-end classRow (classes _ _) _ (class-nil _ _) (visit-up (c .before .before .before .loop .inv .1 base) (omega arith) (omega arith) .0)), visit-up (c .before .before .before .loop .inv .1 0) (omega arith) (omega arith) .1, omega arith, omega arith, omega arith))  -- returns
     (λ c κs. omega arith)  -- kind-at-requires-2
     (λ c κs. omega arith)  -- rest-from-requires
     (λ c κs. (omega arith, (search needs, omega arith, omega arith)))  -- collect-tokens-requires
@@ -97,7 +97,7 @@ pub +collect-tokens-spec : {M : Type 1} → statement M
     (λ c. (
       omega arith,
       λ base. visit-node (c .before .before .before .before .before .before .before .before .before .before .before .loop .inv .1 base) (omega arith) (omega (arith, c .before .before .before .before .before .before .before .before .before .before .before .loop .inv .1 base .level (omega arith))) (omega arith) (c .before .before .before .before .before .rest-from .ensures .0) (c .before .before .before .collect-tokens .ensures .1) refl
-          (λ f. writing-step row (classes _ _) _ _ (class-node _ _ base _ _ (omega arith) (c .before .before .before .before .before .rest-from .ensures .0) _ f) (c .before .before .before .collect-tokens .ensures .0 _)),
+          (λ f. writing-step classRow (classes _ _) _ _ (class-node _ _ base _ _ (omega arith) (c .before .before .before .before .before .rest-from .ensures .0) _ f) (c .before .before .before .collect-tokens .ensures .0 _)),
     ))  -- loop-again
     (λ c κs. omega arith)  -- start-at-requires
     (λ c κs. omega arith)  -- end-at-requires
@@ -109,7 +109,7 @@ pub +collect-tokens-spec : {M : Type 1} → statement M
     (λ c. (
       omega arith,
       λ base. visit-token (c .before .before .before .before .before .before .before .before .before .before .before .before .before .loop .inv .1 base) (omega arith) (omega (arith, c .before .before .before .before .before .before .before .before .before .before .before .before .before .loop .inv .1 base .level (omega arith))) (omega arith) (omega arith) (c .level-from2 .ensures)
-          (λ f. writing-step row (classes _ _) _ _ (class-token _ _ base _ (c .before .before .before .before .before .classify-token .ensures) (c .before .before .before .before .before .before .before .before .before .before .before .before .before .before .before .before .kind-at .ensures .0) (c .before .before .before .before .before .before .before .before .before .kind-at2 .ensures .0) (c .before .before .before .before .before .before .before .start-at .ensures .0) (c .before .before .before .before .before .before .end-at .ensures .0) f) (c .before .before .before .put-class .ensures .0)),
+          (λ f. writing-step classRow (classes _ _) _ _ (class-token _ _ base _ (c .before .before .before .before .before .classify-token .ensures) (c .before .before .before .before .before .before .before .before .before .before .before .before .before .before .before .before .kind-at .ensures .0) (c .before .before .before .before .before .before .before .before .before .kind-at2 .ensures .0) (c .before .before .before .before .before .before .before .start-at .ensures .0) (c .before .before .before .before .before .before .end-at .ensures .0) f) (c .before .before .before .put-class .ensures .0)),
     ))  -- loop-again-2
     (λ c. c .before .loop .inv .0 .3)  -- same-length-2
-    (λ c. ((λ base. writing-end row (classes _ _) _ (class-nil _ _) (visit-end (c .before .loop .inv .1 base) (omega arith) .0)), visit-end (c .before .loop .inv .1 0) (omega arith) .1, omega arith, omega arith, omega arith))  -- returns-2
+    (λ c. ((λ base. writing-end classRow (classes _ _) _ (class-nil _ _) (visit-end (c .before .loop .inv .1 base) (omega arith) .0)), visit-end (c .before .loop .inv .1 0) (omega arith) .1, omega arith, omega arith, omega arith))  -- returns-2

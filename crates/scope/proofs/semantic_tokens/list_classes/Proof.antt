@@ -1,4 +1,4 @@
-use Rattle.scope.specs.Classes.{row}
+use Rattle.scope.specs.Classes.{classRow}
 use Rattle.table.proofs.Writes.{list-filled, list-short}
 use mathlib.Core.Logic.{⊎-elim}
 use mathlib.Core.List.{[]}
@@ -16,8 +16,8 @@ list-classes-spec =
     (λ c. search needs)  -- mul-if1
     (λ c κs. search needs)  -- class-bytes-requires
     (λ c. search needs)  -- cast-t14
-    (λ c. list-short row 12 (λ e. refl) (omega arith) [] _ _ refl (c .before .class-bytes .ensures .0) (c .if2 .taken))  -- returns
+    (λ c. list-short classRow 12 (λ e. refl) (omega arith) [] _ _ refl (c .before .class-bytes .ensures .0) (c .if2 .taken))  -- returns
     (λ c κs. search needs)  -- collect-tokens-requires
     (λ c. search needs)  -- cast-t17
     (λ c. search needs)  -- same-length
-    (λ c. list-filled row 12 (λ e. refl) (omega arith) [] _ _ refl (c .before .before .before .collect-tokens .ensures .0 0) (⊎-elim (λ w. omega (arith, c .before .before .before .collect-tokens .ensures .0 0 .next)) (λ w. omega (arith, c .before .before .before .collect-tokens .ensures .0 0 .next)) (c .before .before .before .before .before .if1 .came))))  -- returns-2
+    (λ c. list-filled classRow 12 (λ e. refl) (omega arith) [] _ _ refl (c .before .before .before .collect-tokens .ensures .0 0) (⊎-elim (λ w. omega (arith, c .before .before .before .collect-tokens .ensures .0 0 .next)) (λ w. omega (arith, c .before .before .before .collect-tokens .ensures .0 0 .next)) (c .before .before .before .before .before .if1 .came))))  -- returns-2

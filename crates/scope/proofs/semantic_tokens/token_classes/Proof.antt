@@ -1,5 +1,5 @@
 use lib.ListN.{length}
-use Rattle.scope.specs.Classes.{row}
+use Rattle.scope.specs.Classes.{classRow}
 use Rattle.keywords.specs.inner.KeywordTable.{keywordBytes}
 use Rattle.keywords.specs.Keywords.{keywords}
 use Rattle.table.proofs.Sense.{admitted-tidy}
@@ -23,6 +23,6 @@ token-classes-spec =
     (λ c. search needs)  -- enum-told
     (λ c. search needs)  -- slice-aggregate-list-classes
     (λ c κs. let a = c .before .before .before .before .before .before .before .before .before .args in let w = admitted-tidy (a .table .now) (length (a .source .now)) 0 (cc) in (record { bytes = refl; places = refl }, w .some, w .few))  -- list-classes-requires
-    (λ c. list-refused row _ _ _ (cc))  -- returns
+    (λ c. list-refused classRow _ _ _ (cc))  -- returns
     (λ c. search needs)  -- same-length
-    (λ c. list-admitted row _ _ _ (cc) (c .before .before .list-classes .ensures)))  -- returns-2
+    (λ c. list-admitted classRow _ _ _ (cc) (c .before .before .list-classes .ensures)))  -- returns-2

@@ -1,6 +1,6 @@
 use Rattle.tables.proofs.Turns.{read-token, read-name, read-alias, read-table, read-join, read-other, read-end}
-use Rattle.tables.specs.inner.Rows.{same, rowsOf}
-use Rattle.tables.specs.Tables.{reading}
+use Rattle.tables.specs.inner.Rows.{asRow, rowsOf}
+use Rattle.tables.specs.Tables.{tableReading}
 use Rattle.tables.specs.declared.pending.Pending.the-variants.{Nothing}
 use Rattle.table.proofs.Writes.{written-none, written-then, writing, writing-turn, writing-last}
 use Rattle.table.proofs.Walks.{Walk, walk-start, walk-end, walk-next, walk-node}
@@ -49,7 +49,7 @@ collect-table-refs-below t =
 abbrev collect-table-refs-Inv-loop : collect-table-refs-lts.InvT-loop
 collect-table-refs-Inv-loop reads s base source out₀ at m next₀ pending₀ i₀ out next pending i =
     ((1 ≤ i) × (i ≤ m) × (next + 56 ≤ at + 56 * i) × (length out ≡ length out₀))
-    × Walk s base i (writing same (reading (rowsOf reads) source pending) out next) (writing same (reading (rowsOf reads) source Nothing) out₀ at (kids (records base s)))
+    × Walk s base i (writing asRow (tableReading (rowsOf reads) source pending) out next) (writing asRow (tableReading (rowsOf reads) source Nothing) out₀ at (kids (records base s)))
 
 abbrev collect-table-refs-μ-loop : collect-table-refs-lts.MeasureT-loop
 collect-table-refs-μ-loop reads s base source out₀ at m next₀ pending₀ i₀ out next pending i = m - i
@@ -80,20 +80,20 @@ claims t = (
 
 module _ (t : ℕ) where
   loop-holds : collect-table-refs-lts.Need-loop-holds (claims t) (collect-table-refs-at t) collect-table-refs.Post collect-table-refs-Inv-loop collect-table-refs-μ-loop
-  loop-holds c = (omega arith, walk-start _ _ (writing same (reading _ _ _) _ _) (omega arith) (c .child-from .ensures))
+  loop-holds c = (omega arith, walk-start _ _ (writing asRow (tableReading _ _ _) _ _) (omega arith) (c .child-from .ensures))
 
   loop-again : collect-table-refs-lts.Need-loop-again (claims t) (collect-table-refs-at t) collect-table-refs.Post collect-table-refs-Inv-loop collect-table-refs-μ-loop
   loop-again c = (
     omega arith,
     walk-node (c .before .before .before .before .before .before .before .before .before .before .before .loop .inv .1) (omega arith) (omega arith) (c .before .before .before .before .before .before .before .stretch-of .ensures .0) (omega arith) (c .child-from2 .ensures)
-        (λ f. writing-turn same (reading _ _ _) (reading _ _ _) _ _ (read-name _ _ _ _ _ _ f _ (omega arith) (c .before .before .extract-table-identifier .ensures)) (c .before .before .before .before .before .hand-on .ensures .0)),
+        (λ f. writing-turn asRow (tableReading _ _ _) (tableReading _ _ _) _ _ (read-name _ _ _ _ _ _ f _ (omega arith) (c .before .before .extract-table-identifier .ensures)) (c .before .before .before .before .before .hand-on .ensures .0)),
   )
 
   loop-again-2 : collect-table-refs-lts.Need-loop-again-2 (claims t) (collect-table-refs-at t) collect-table-refs.Post collect-table-refs-Inv-loop collect-table-refs-μ-loop
   loop-again-2 c = (
     omega arith,
     walk-node (c .before .before .before .before .before .before .before .before .before .before .before .before .before .loop .inv .1) (omega arith) (omega arith) (c .before .before .before .before .before .before .before .before .stretch-of2 .ensures .0) (omega arith) (c .child-from3 .ensures)
-        (λ f. writing-turn same (reading _ _ _) (reading _ _ _) _ _ (read-alias _ _ _ _ _ _ f (omega arith) (c .before .before .before .before .before .before .before .before .stretch-of2 .ensures .0) (omega arith) (c .before .before .before .before .before .before .before .extract-alias-name .ensures) (c .before .before .with-alias .ensures)) (c .before .before .before .before .before .put-alias .ensures .0)),
+        (λ f. writing-turn asRow (tableReading _ _ _) (tableReading _ _ _) _ _ (read-alias _ _ _ _ _ _ f (omega arith) (c .before .before .before .before .before .before .before .before .stretch-of2 .ensures .0) (omega arith) (c .before .before .before .before .before .before .before .extract-alias-name .ensures) (c .before .before .with-alias .ensures)) (c .before .before .before .before .before .put-alias .ensures .0)),
   )
 
   collect-table-refs-requires : collect-table-refs-lts.Need-collect-table-refs-requires (claims t) (collect-table-refs-at t) collect-table-refs.Post collect-table-refs-Inv-loop collect-table-refs-μ-loop
@@ -103,7 +103,7 @@ module _ (t : ℕ) where
   loop-again-3 c = (
     omega arith,
     walk-node (c .before .before .before .before .before .before .before .before .before .before .before .before .loop .inv .1) (omega arith) (omega arith) (c .before .before .before .before .before .before .stretch-of3 .ensures .0) (omega arith) (c .child-from4 .ensures)
-        (λ f. writing-turn same (reading _ _ _) (reading _ _ _) _ _ (read-table _ _ _ _ _ _ f _ (omega arith)) (c .before .before .before .before .collect-table-refs .ensures .0)),
+        (λ f. writing-turn asRow (tableReading _ _ _) (tableReading _ _ _) _ _ (read-table _ _ _ _ _ _ f _ (omega arith)) (c .before .before .before .before .collect-table-refs .ensures .0)),
   )
 
   collect-table-refs-requires-2 : collect-table-refs-lts.Need-collect-table-refs-requires-2 (claims t) (collect-table-refs-at t) collect-table-refs.Post collect-table-refs-Inv-loop collect-table-refs-μ-loop
@@ -113,22 +113,22 @@ module _ (t : ℕ) where
   loop-again-4 c = (
     omega arith,
     walk-node (c .before .before .before .before .before .before .before .before .before .before .before .before .before .before .before .before .before .loop .inv .1) (omega arith) (omega arith) (c .before .before .before .before .before .before .before .before .before .before .stretch-of4 .ensures .0) (omega arith) (c .child-from5 .ensures)
-        (λ f. writing-turn same (reading _ _ _) (reading _ _ _) _ _ (read-join _ _ _ _ _ _ f _ (omega arith)) (written-then same (c .before .before .before .before .before .before .before .before .hand-on2 .ensures .0) (c .before .before .before .before .collect-table-refs2 .ensures .0))),
+        (λ f. writing-turn asRow (tableReading _ _ _) (tableReading _ _ _) _ _ (read-join _ _ _ _ _ _ f _ (omega arith)) (written-then asRow (c .before .before .before .before .before .before .before .before .hand-on2 .ensures .0) (c .before .before .before .before .collect-table-refs2 .ensures .0))),
   )
 
   loop-again-5 : collect-table-refs-lts.Need-loop-again-5 (claims t) (collect-table-refs-at t) collect-table-refs.Post collect-table-refs-Inv-loop collect-table-refs-μ-loop
   loop-again-5 c = (
     omega arith,
     walk-next (c .before .before .before .before .before .before .before .loop .inv .1) (omega arith) (c .child-from6 .ensures)
-        (λ g f. writing-turn same (reading _ _ _) (reading _ _ _) _ _ (read-token _ _ _ _ _ _ f) (written-none same _ _))
-        (λ g b f. writing-turn same (reading _ _ _) (reading _ _ _) _ _ (read-other _ _ _ _ _ _ f b (omega arith) (omega arith) (omega arith) (omega arith)) (written-none same _ _)),
+        (λ g f. writing-turn asRow (tableReading _ _ _) (tableReading _ _ _) _ _ (read-token _ _ _ _ _ _ f) (written-none asRow _ _))
+        (λ g b f. writing-turn asRow (tableReading _ _ _) (tableReading _ _ _) _ _ (read-other _ _ _ _ _ _ f b (omega arith) (omega arith) (omega arith) (omega arith)) (written-none asRow _ _)),
   )
 
   same-length : collect-table-refs-lts.Need-same-length (claims t) (collect-table-refs-at t) collect-table-refs.Post collect-table-refs-Inv-loop collect-table-refs-μ-loop
   same-length c = omega arith
 
   returns : collect-table-refs-lts.Need-returns (claims t) (collect-table-refs-at t) collect-table-refs.Post collect-table-refs-Inv-loop collect-table-refs-μ-loop
-  returns c = (writing-last same (reading _ _ _) (reading _ _ _) _ (rw (read-end _ _ _) (c .before .before .hand-on3 .ensures .0)) (walk-end (c .before .before .before .before .before .loop .inv .1) (omega arith)), omega arith)
+  returns c = (writing-last asRow (tableReading _ _ _) (tableReading _ _ _) _ (rw (read-end _ _ _) (c .before .before .hand-on3 .ensures .0)) (walk-end (c .before .before .before .before .before .loop .inv .1) (omega arith)), omega arith)
 
 pub +collect-table-refs-spec : {M : Type 1} → statement M
 +collect-table-refs-spec =

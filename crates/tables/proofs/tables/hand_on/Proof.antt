@@ -1,7 +1,7 @@
 use Rattle.tables.proofs.Turns.{hand-none, hand-held, hand-nothing}
 use Rattle.table.proofs.Writes.{written-none, written-map}
 use Rattle.tables.specs.Tables.{referenceRow}
-use Rattle.tables.specs.inner.Rows.{same}
+use Rattle.tables.specs.inner.Rows.{asRow}
 use native.Mathlib.Omega.{arith}
 use borrow.Author.Needs.{needs}
 use Rattle.tables.proofs.tables.hand_on.Statement.{statement}
@@ -16,7 +16,7 @@ hand-on-spec =
     (λ c. search needs)  -- enum-told-3
     (λ c. search needs)  -- enum-known-p
     (λ c κs. search needs)  -- put-reference-requires
-    (λ c. (rw (c .enum-told .given .1, hand-none _) (written-none same _ _), omega arith))  -- returns
-    (λ c. (rw (c .enum-told3 .given .1, hand-nothing _) (written-none same _ _), omega arith))  -- returns-2
+    (λ c. (rw (c .enum-told .given .1, hand-none _) (written-none asRow _ _), omega arith))  -- returns
+    (λ c. (rw (c .enum-told3 .given .1, hand-nothing _) (written-none asRow _ _), omega arith))  -- returns-2
     (λ c. search needs)  -- same-length
     (λ c. (rw (c .before .before .before .before .before .before .before .enum-told2 .given .1, c .before .before .before .before .before .p .given .1, hand-held _) (written-map referenceRow _ (c .before .before .put-reference .ensures .0)), omega arith)))  -- returns-3

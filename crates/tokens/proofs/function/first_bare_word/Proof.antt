@@ -24,8 +24,8 @@ first-bare-word-spec =
     (λ c κs. omega arith)  -- child-from-requires
     (λ c. (omega arith, walks-start _ bareWordIn (omega arith) (c .child-from .ensures)))  -- loop-holds
     (λ c κs. omega arith)  -- kind-at-requires
-    (λ c κs. omega arith)  -- name-of-requires
-    (λ c. rw (c .name-of .ensures) (bare-here (c .before .before .before .before .loop .inv .1) (omega arith) (cc)))  -- returns-2
+    (λ c κs. omega arith)  -- token-at-requires
+    (λ c. rw (c .token-at .ensures) (bare-here (c .before .before .before .before .loop .inv .1) (omega arith) (cc)))  -- returns-2
     (λ c. omega arith)  -- add-child-from
     (λ c κs. omega arith)  -- child-from-requires-2
     (λ c. omega arith)  -- loop-less

@@ -13,8 +13,8 @@ name-at-spec =
     tie.close
     (tie.spec
     (λ c κs. search needs)  -- kind-at-requires
-    (λ c κs. search needs)  -- name-of-requires
-    (λ c. λ base. rw (← c .before .before .kind-at .ensures .0, eq-eqb _ _ (c .before .if1 .taken)) (ap Is (c .name-of .ensures)))  -- returns
+    (λ c κs. search needs)  -- token-at-requires
+    (λ c. λ base. rw (← c .before .before .kind-at .ensures .0, eq-eqb _ _ (c .before .if1 .taken)) (ap Is (c .token-at .ensures)))  -- returns
     (λ c. λ base. rw (← c .before .before .kind-at .ensures .0, ne-eqb _ _ (c .before .if1 .left), eq-eqb _ _ (c .if2 .taken)))  -- returns-2
     (λ c κs. search needs)  -- rest-from-requires
     (λ c κs. search needs)  -- first-bare-word-requires

@@ -1,11 +1,11 @@
 use Rattle.tokens.specs.inner.Turns.{nameAt}
 use borrow.Author.Needs.{needs}
-use Rattle.tokens.proofs.function.name_of.Statement.{statement}
-use Rattle.tokens.proofs.function.name_of.Tie as tie
+use Rattle.tokens.proofs.function.token_at.Statement.{statement}
+use Rattle.tokens.proofs.function.token_at.Tie as tie
 
-pub name-of-spec : {M : Type 1} → statement M
+pub token-at-spec : {M : Type 1} → statement M
 unfolding nameAt
-name-of-spec =
+token-at-spec =
     tie.close
     (tie.spec
     (λ c κs. search needs)  -- start-at-requires
