@@ -20,9 +20,11 @@ use Rattle.table.specs.Exactly.{Token}
 use Rattle.table.specs.Sense.{Tidy}
 use Rattle.table.proofs.Laws.{lt-or-le, node-or-token}
 use Rattle.table.proofs.Scans.{sweep, Sweep}
-use Rattle.tokens.specs.declared.last_token.LastTwo.{LastTwo}
+use Rattle.tokens.specs.declared.sweep.Sought.the-variants.{LastToken}
+use Rattle.tokens.specs.declared.sweep.Swept.{Swept}
 use Rattle.tokens.specs.LastToken.{counted, lastTwo}
-use Rattle.tokens.proofs.Tokens.{Reads}
+use Rattle.tokens.specs.inner.Turns.{countsFor, swept}
+use Rattle.tokens.proofs.Tokens.{seeking, Reads, swept-two}
 
 same : {S : Type 0} {s : S} (b : Bool) (x y : S) → x ≡ s → y ≡ s → cond b x y ≡ s
 same true x y p q = p
@@ -57,18 +59,20 @@ module _ {S : Type 0} (step : S → Rec → S) (counts enters : Rec → Bool) wh
 abbrev pub LateFrom : ℕ → List ℕ → ℕ → Type 0
 LateFrom o t i = (j : ℕ) → i ≤ j → j < count t → lastNode < kindAt t j → o < startAt t j
 
-module _ (o : ℕ) (t : List ℕ) (base : ℕ) (step : LastTwo → Rec → LastTwo) (enters : Rec → Bool) where
-  late-run : (i n : ℕ) → i + n ≤ count t → LateFrom o t i → Late step (λ r. counted o (r .kind) (r .start)) enters (run t base i n)
-  unfolding run recordAt Late
+module _ (o : ℕ) (t : List ℕ) (base : ℕ) (step : Swept → Rec → Swept) (enters : Rec → Bool) where
+  late-run : (i n : ℕ) → i + n ≤ count t → LateFrom o t i → Late step (λ r. countsFor LastToken o (r .kind) (r .start)) enters (run t base i n)
+  unfolding run recordAt Late countsFor
   late-run i zero h l = tt
   late-run i (suc n) h l =
       ((λ k. rw (lt-leb (startAt t i) o (l i (omega arith) (omega arith) k))), late-run (i + 1) n (omega arith) (λ j p q k. l j (omega arith) q k))
 
-pub two-late : {o : ℕ} {t : List ℕ} {k m i : ℕ} {two : LastTwo} → Reads o t k m i two → i ≤ count t → LateFrom o t i
-    → (base : ℕ) → two ≡ lastTwo o (kids (records base t))
-unfolding from
-two-late {o} {t} {k} {m} {i} {two} w h l base =
-    sym (sweep-late _ _ _ (run t base i (count t - i)) k m two (late-run o t base _ _ i (count t - i) (omega arith) l)) ∙ w .left .at base .left
+pub two-late : {o : ℕ} {t : List ℕ} {k m i : ℕ} {w : Swept} → Reads LastToken o t k m i w → i ≤ count t → LateFrom o t i
+    → (base : ℕ) → w .two ≡ lastTwo o (kids (records base t))
+unfolding from seeking
+two-late {o} {t} {k} {m} {i} {w} s h l base =
+    ap (λ (x : Swept). x .two)
+    (sym (sweep-late _ _ _ (run t base i (count t - i)) k m w (late-run o t base _ _ i (count t - i) (omega arith) l)) ∙ s .left .at base .left)
+    ∙ swept-two o (kids (records base t))
 
 pub tidy-late : {t : List ℕ} {n o i : ℕ} → Tidy t n → i < count t → lastNode < kindAt t i → o < startAt t i → LateFrom o t i
 tidy-late {t} {n} {o} {i} y h k s j p q g =

@@ -1,4 +1,4 @@
--- A function's name and the argument's index.
+-- A function's name.
 -- Assumes nothing.
 use Prim.Native.Nat.{ℕ, _+_, _*_, _≤_, _<_}
 use mathlib.Core.Path.{_≡_, refl, sym, ap, _∙_}
@@ -7,27 +7,23 @@ use mathlib.Core.Bool.{Bool, true, false, cond}
 use mathlib.Core.List.{List, [], _∷_}
 use native.Mathlib.Omega.{arith}
 use borrow.Author.Tests.{eq-eqb, ne-eqb}
-use lib.Dec.{ltb, eqb}
+use lib.Dec.{eqb}
 use lib.ListN.{drop}
 use Rattle.table.specs.declared.record.Rec.{Rec}
 use Rattle.table.specs.Kinds.{lastNode, bareWord, openingRound, identifier}
-use Rattle.table.specs.Table.{recordBytes, count, kindAt, depthAt, startAt, endAt, recordAt, from, records}
+use Rattle.table.specs.Table.{recordBytes, count, kindAt, recordAt, from, records}
 use Rattle.table.specs.Forest.{Forest, nil, token, node, kids, children, Child}
-use Rattle.table.specs.inner.Scan.{Reading, ofTokens}
-use Rattle.table.specs.Descent.{along}
 use Rattle.table.proofs.Laws.{node-or-token, records-tail}
 use Rattle.table.proofs.Walks.{walk-here, walk-at-node, walk-on}
-use Rattle.table.proofs.Scans.{tokens-none, tokens-start}
 use Rattle.table.specs.declared.range.Range.{Range}
 use Rattle.tokens.specs.declared.last_token.Name.{Name}
 use Rattle.tokens.specs.declared.last_token.Name.the-variants.{Nameless, Named}
 use Rattle.tokens.specs.declared.function.Naming.{Naming}
 use Rattle.tokens.specs.declared.function.Naming.the-variants.{Open, Is}
-use Rattle.tokens.specs.declared.function.Arguments.{Arguments}
 use Rattle.tokens.specs.LastToken.{named}
-use Rattle.tokens.specs.Function.{bareWordIn, orName, functionName, opens, argued, arguments}
+use Rattle.tokens.specs.Function.{bareWordIn, orName, functionName}
 use Rattle.tokens.specs.inner.Turns.{nameAt, naming, namingOf, namingAt}
-use Rattle.table.proofs.Walking.{Walks, Sweeps, sweeps-end, sweeps-stop, sweeps-over, sweeps-token, sweeps-node}
+use Rattle.table.proofs.Walking.{Walks}
 
 -- ---- the first direct BareWord
 
@@ -102,50 +98,3 @@ module _ {s : List ℕ} {i : ℕ} (w : Walks s i functionName functionName) (h :
   pub name-next : {r : ℕ} {x : Naming} → ((base : ℕ) → x ≡ namingAt s base i) → x ≡ Open → Child s (i + 1) r → Walks s r functionName functionName
   unfolding left
   name-next e q c = record { at = λ base. walk-on (w .at base) h (rw (← e base, q) at (name-left base)) c }
-
--- ---- the argument's index
-
-abbrev pub unmet : Arguments
-unmet = record { met = false; index = 0 }
-
-abbrev step : Arguments → Rec → Arguments
-step a r = argued a (r .kind)
-
-abbrev pub counting : ℕ → Reading Arguments
-counting o = ofTokens step (λ r. ltb (r .start) o) (λ r. opens (r .kind) (r .start) (r .end))
-
--- the loop at record i
-pub record Counts (o : ℕ) (t : List ℕ) (k m i : ℕ) (a : Arguments) : Type 0 where
-  pub left : Sweeps (counting o) t k m i a (arguments o)
-
-module _ (o : ℕ) (t : List ℕ) where
-  pub arguments-none : count t ≡ 0 → (base : ℕ) → 0 ≡ arguments o (kids (records base t)) .index
-  unfolding arguments
-  arguments-none h base = ap (λ (a : Arguments). a .index) (tokens-none step _ _ t base unmet h)
-
-  pub arguments-start : {k : ℕ} → 0 < count t → k ≡ depthAt t 0 + 1 → Counts o t k k 1 unmet
-  unfolding arguments
-  arguments-start h e = record { left = record { at = λ base. tokens-start step _ _ t base unmet h e } }
-
-module _ {o : ℕ} {t : List ℕ} {k m i : ℕ} {a : Arguments} (w : Counts o t k m i a) where
-  pub arguments-end : count t ≤ i → (base : ℕ) → a .index ≡ arguments o (kids (records base t)) .index
-  arguments-end h base = ap (λ (a : Arguments). a .index) (sweeps-end (w .left) h base)
-
-  module _ (h : i < count t) where
-    pub arguments-stop : depthAt t i < k → (base : ℕ) → a .index ≡ arguments o (kids (records base t)) .index
-    arguments-stop d base = ap (λ (a : Arguments). a .index) (sweeps-stop (w .left) h d base)
-
-    module _ (kd : k ≤ depthAt t i) where
-      pub arguments-over : m < depthAt t i → Counts o t k m (i + 1) a
-      arguments-over d = record { left = sweeps-over (w .left) h kd d }
-
-      module _ (dm : depthAt t i ≤ m) where
-        pub arguments-token : {m′ : ℕ} {a′ : Arguments} → lastNode < kindAt t i → m′ ≡ depthAt t i
-            → a′ ≡ cond (ltb (startAt t i) o) (argued a (kindAt t i)) a → Counts o t k m′ (i + 1) a′
-        unfolding recordAt
-        arguments-token g p q = record { left = sweeps-token (w .left) h kd dm g p (λ base. q) }
-
-        pub arguments-node : {m′ : ℕ} → kindAt t i ≤ lastNode → m′ ≡ cond (opens (kindAt t i) (startAt t i) (endAt t i)) (depthAt t i + 1) (depthAt t i)
-            → Counts o t k m′ (i + 1) a
-        unfolding recordAt
-        arguments-node g p = record { left = sweeps-node (w .left) h kd dm (opens (kindAt t i) (startAt t i) (endAt t i)) g (λ base. refl) p (λ base. refl) }

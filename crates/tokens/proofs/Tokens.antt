@@ -1,10 +1,11 @@
--- Tokens and their texts, and the reading to an offset.
+-- Tokens and their texts, and the sweep over them.
 -- Assumes nothing.
 use Prim.Native.Nat.{ℕ, _+_, _≤_, _<_}
 use mathlib.Core.Path.{_≡_, refl, sym, _∙_}
 use mathlib.Core.Bool.{Bool, true, false, cond, _&&_}
 use mathlib.Core.List.{List, [], _∷_}
 use native.Mathlib.Omega.{arith}
+use borrow.Author.Tests.{leb-true, leb-false}
 use lib.Dec.{eqb}
 use lib.ListN.{length, getD}
 use Rattle.table.specs.declared.record.Rec.{Rec}
@@ -15,12 +16,16 @@ use Rattle.table.specs.inner.Scan.{Reading, ofTokens}
 use Rattle.table.specs.Descent.{along}
 use Rattle.table.specs.Text.{same}
 use Rattle.table.proofs.Scans.{tokens-none, tokens-start}
+use Rattle.table.proofs.Walking.{Sweeps, sweeps-token, sweeps-node}
 use Rattle.tokens.specs.declared.last_token.Name.{Name}
 use Rattle.tokens.specs.declared.last_token.Name.the-variants.{Nameless}
 use Rattle.tokens.specs.declared.last_token.LastTwo.{LastTwo}
-use Rattle.tokens.specs.LastToken.{named, counted, entered, reading, lastOr, init, lastTwo}
-use Rattle.tokens.specs.inner.Turns.{pushed}
-use Rattle.table.proofs.Walking.{Sweeps, sweeps-end, sweeps-stop, sweeps-over, sweeps-token, sweeps-node}
+use Rattle.tokens.specs.declared.sweep.Sought.{Sought}
+use Rattle.tokens.specs.declared.sweep.Sought.the-variants.{LastToken, ArgumentIndex}
+use Rattle.tokens.specs.declared.sweep.Swept.{Swept}
+use Rattle.tokens.specs.LastToken.{named, reading, lastOr, init, lastTwo}
+use Rattle.tokens.specs.Function.{argued, arguments}
+use Rattle.tokens.specs.inner.Turns.{pushed, countsFor, entersFor, turned, nothingRead, swept}
 
 -- a text of one byte
 pub one-byte : (t : List ℕ) (b : ℕ) → length t ≡ 1 → eqb (getD t 0 0) b ≡ same t (b ∷ [])
@@ -32,60 +37,75 @@ one-byte (x ∷ []) b h = go (eqb x b)
     go false = refl
 one-byte (x ∷ (y ∷ t)) b h = absurd (omega arith)
 
--- ---- the last two tokens
+-- ---- the sweep, for whatever is sought
 
-abbrev pub neither : LastTwo
-neither = record { last = Nameless; before = Nameless }
+abbrev step : Sought → Swept → Rec → Swept
+step x w r = turned x w (r .kind) (r .start) (r .end)
+
+unfoldable pub seeking : Sought → ℕ → Reading Swept
+seeking x o = ofTokens (step x) (λ r. countsFor x o (r .kind) (r .start)) (λ r. entersFor x o (r .kind) (r .start) (r .end))
+
+-- the loop at record i
+pub record Reads (x : Sought) (o : ℕ) (t : List ℕ) (k m i : ℕ) (w : Swept) : Type 0 where
+  pub left : Sweeps (seeking x o) t k m i w (swept x o)
+
+module _ (x : Sought) (o : ℕ) (t : List ℕ) where
+  pub swept-none : count t ≡ 0 → (base : ℕ) → nothingRead ≡ swept x o (kids (records base t))
+  unfolding swept
+  swept-none h base = tokens-none (step x) _ _ t base nothingRead h
+
+  pub swept-start : {k : ℕ} → 0 < count t → k ≡ depthAt t 0 + 1 → Reads x o t k k 1 nothingRead
+  unfolding swept seeking
+  swept-start h e = record { left = record { at = λ base. tokens-start (step x) _ _ t base nothingRead h e } }
+
+module _ {x : Sought} {o : ℕ} {t : List ℕ} {k m i : ℕ} {w : Swept} (l : Reads x o t k m i w) (h : i < count t) (kd : k ≤ depthAt t i)
+    {kind start end d : ℕ} {n : Bool} (dm : d ≤ m) (ed : d ≡ depthAt t i) (ek : kind ≡ kindAt t i) (es : start ≡ startAt t i) (ee : end ≡ endAt t i)
+    (en : n ≡ isNode kind) where
+  pub swept-token : {w′ : Swept} → n ≡ false → w′ ≡ cond (countsFor x o kind start) (turned x w kind start end) w
+      → Reads x o t k d (i + 1) w′
+  unfolding recordAt seeking
+  swept-token g q =
+      record { left = sweeps-token (l .left) h kd (rw (← ed) dm) (rw (← ek) (leb-false kind lastNode (sym en ∙ g))) ed (λ base. rw (← ek, ← es, ← ee) q) }
+
+  pub swept-node : {into : Bool} {m′ : ℕ} → n ≡ true → into ≡ entersFor x o kind start end → m′ ≡ cond into (d + 1) d
+      → Reads x o t k m′ (i + 1) w
+  unfolding recordAt seeking
+  swept-node {into} g p q =
+      record {
+        left = sweeps-node (l .left) h kd (rw (← ed) dm) into (rw (← ek) (leb-true kind lastNode (sym en ∙ g))) (λ base. rw (← ek, ← es, ← ee, ← p)) (rw (← ed) q) (λ base. refl);
+      }
+
+-- ---- the last two tokens
 
 abbrev next : LastTwo → Rec → LastTwo
 next two r = pushed two (r .start) (r .end)
-
-abbrev pub toOffset : ℕ → Reading LastTwo
-toOffset o = ofTokens next (λ r. counted o (r .kind) (r .start)) (λ r. entered o (r .start) (r .end))
 
 two-from : (l : List Rec) (r : Rec) (b : Name) → along next (record { last = named r; before = b }) l ≡ record { last = lastOr (named r) l; before = lastOr b (init (r ∷ l)) }
 unfolding along lastOr init
 two-from [] r b = refl
 two-from (q ∷ l) r b = two-from l q (named r)
 
-two-along : (l : List Rec) → along next neither l ≡ record { last = lastOr Nameless l; before = lastOr Nameless (init l) }
+two-along : (l : List Rec) → along next (nothingRead .two) l ≡ record { last = lastOr Nameless l; before = lastOr Nameless (init l) }
 unfolding along lastOr init
 two-along [] = refl
 two-along (r ∷ l) = two-from l r Nameless
 
--- the loop at record i
-pub record Reads (o : ℕ) (t : List ℕ) (k m i : ℕ) (two : LastTwo) : Type 0 where
-  pub left : Sweeps (toOffset o) t k m i two (lastTwo o)
+along-two : (l : List Rec) (w : Swept) → along (step LastToken) w l .two ≡ along next (w .two) l
+unfolding along turned
+along-two [] w = refl
+along-two (r ∷ l) w = along-two l _
 
-module _ (o : ℕ) (t : List ℕ) where
-  pub two-none : count t ≡ 0 → (base : ℕ) → neither ≡ lastTwo o (kids (records base t))
-  unfolding lastTwo
-  two-none h base = tokens-none next _ _ t base neither h ∙ two-along (reading o (kids (records base t)))
+pub swept-two : (o : ℕ) (f : Forest) → swept LastToken o f .two ≡ lastTwo o f
+unfolding swept countsFor entersFor lastTwo
+swept-two o f = along-two (reading o f) nothingRead ∙ two-along (reading o f)
 
-  pub two-start : {k : ℕ} → 0 < count t → k ≡ depthAt t 0 + 1 → Reads o t k k 1 neither
-  unfolding lastTwo
-  two-start h e =
-      record { left = record { at = λ base. rw (← two-along (reading o (kids (records base t)))) (tokens-start next _ _ t base neither h e) } }
+-- ---- the argument's index
 
-module _ {o : ℕ} {t : List ℕ} {k m i : ℕ} {two : LastTwo} (w : Reads o t k m i two) where
-  pub two-end : count t ≤ i → (base : ℕ) → two ≡ lastTwo o (kids (records base t))
-  two-end h = sweeps-end (w .left) h
+along-arguments : (l : List Rec) (w : Swept) → along (step ArgumentIndex) w l .arguments ≡ along (λ a r. argued a (r .kind)) (w .arguments) l
+unfolding along turned
+along-arguments [] w = refl
+along-arguments (r ∷ l) w = along-arguments l _
 
-  module _ (h : i < count t) where
-    pub two-stop : depthAt t i < k → (base : ℕ) → two ≡ lastTwo o (kids (records base t))
-    two-stop d = sweeps-stop (w .left) h d
-
-    module _ (kd : k ≤ depthAt t i) where
-      pub two-over : m < depthAt t i → Reads o t k m (i + 1) two
-      two-over d = record { left = sweeps-over (w .left) h kd d }
-
-      module _ (dm : depthAt t i ≤ m) where
-        pub two-token : {m′ : ℕ} {two′ : LastTwo} → lastNode < kindAt t i → m′ ≡ depthAt t i
-            → two′ ≡ cond (counted o (kindAt t i) (startAt t i)) (pushed two (startAt t i) (endAt t i)) two → Reads o t k m′ (i + 1) two′
-        unfolding recordAt
-        two-token g p q = record { left = sweeps-token (w .left) h kd dm g p (λ base. q) }
-
-        pub two-node : {m′ : ℕ} → kindAt t i ≤ lastNode → m′ ≡ cond (entered o (startAt t i) (endAt t i)) (depthAt t i + 1) (depthAt t i)
-            → Reads o t k m′ (i + 1) two
-        unfolding recordAt
-        two-node g p = record { left = sweeps-node (w .left) h kd dm (entered o (startAt t i) (endAt t i)) g (λ base. refl) p (λ base. refl) }
+pub swept-arguments : (o : ℕ) (f : Forest) → swept ArgumentIndex o f .arguments ≡ arguments o f
+unfolding swept countsFor entersFor arguments
+swept-arguments o f = along-arguments _ nothingRead

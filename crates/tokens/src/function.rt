@@ -1,27 +1,22 @@
 // A function's name, and the index of its argument.
 use crate::last_token::Name;
-use crate::last_token::reach_below;
-use table::kinds::AGGREGATE_FUNCTION;
+use crate::sweep::Sought;
+use crate::sweep::sweep;
 use table::kinds::BARE_WORD;
-use table::kinds::COMMA;
-use table::kinds::FUNCTION_CALL;
 use table::kinds::IDENTIFIER;
 use table::kinds::OPENING_ROUND;
-use table::kinds::is_node;
 use table::range::Range;
 use table::record::count_of;
-use table::record::depth_at;
 use table::record::end_at;
 use table::record::kind_at;
 use table::record::start_at;
 use table::stretch::child_from;
 use table::stretch::rest_from;
 ghost use mathlib.Core.Path.{_≡_};
-ghost use mathlib.Core.Bool.{cond};
-ghost use Prim.Native.Nat.{ℕ, _+_, _≤_, _<_};
+ghost use Prim.Native.Nat.{ℕ, _<_};
 ghost use Rattle.table.specs.Table.{count, records};
 ghost use Rattle.table.specs.Forest.{kids};
-ghost use Rattle.tokens.specs.Function.{bareWordIn, functionName, opens, argued, arguments};
+ghost use Rattle.tokens.specs.Function.{bareWordIn, functionName, arguments};
 ghost use Rattle.tokens.specs.inner.Turns.{nameAt, namingAt};
 
 // A `(` was met, and the index of the argument.
@@ -104,75 +99,10 @@ pub fn extract_function_name(s: &[u8]) -> Name
     Name::Nameless
 }
 
-// What a token of this kind makes of the index.
-fn argue(a: Arguments, kind: usize) -> Arguments
-    requires { ⌜ a .index < 1152921504606846976 ⌝ }
-    ensures { λ r. ⌜ (r ≡ argued a kind) × (r .index ≤ a .index + 1) ⌝ }
-{
-    if kind == OPENING_ROUND {
-        return Arguments {
-            met: true,
-            index: 0,
-        };
-    }
-    if (kind == COMMA) & a.met {
-        return Arguments {
-            met: true,
-            index: a.index + 1,
-        };
-    }
-    a
-}
-
-// A node is gone into when counting commas: it is not empty, and no function's call.
-fn opens(kind: usize, start: usize, end: usize) -> bool
-    ensures { λ r. ⌜ r ≡ opens kind start end ⌝ }
-{
-    !(end < start) & !((kind == FUNCTION_CALL) | (kind == AGGREGATE_FUNCTION))
-}
-
 // The index of the argument that the offset is in, below the first record of the stretch s.
 pub fn count_commas_before(s: &[u8], offset: usize) -> usize
     ensures { λ r. ⌜ ((base : ℕ) → r ≡ arguments offset (kids (records base (now (s .entry)))) .index) ⌝ }
 {
-    let mut a = Arguments {
-        met: false,
-        index: 0,
-    };
-    let m = count_of(s);
-    if m == 0 {
-        return 0;
-    }
-    let k = depth_at(s, 0) + 1;
-    let mut reach = k;
-    let mut i = 1;
-    while i < m {
-        let d = depth_at(s, i);
-        if d < k {
-            return a.index;
-        }
-        if reach < d {
-            i += 1;
-        } else {
-            let kind = kind_at(s, i);
-            let start = start_at(s, i);
-            if is_node(kind) {
-                reach = reach_below(d, opens(kind, start, end_at(s, i)));
-                i += 1;
-            } else {
-                a = argue_if(start < offset, a, kind);
-                reach = d;
-                i += 1;
-            }
-        }
-    }
-    a.index
-}
-
-// What a token makes of the index, if it counts.
-fn argue_if(counts: bool, a: Arguments, kind: usize) -> Arguments
-    requires { ⌜ a .index < 1152921504606846976 ⌝ }
-    ensures { λ r. ⌜ (r ≡ cond counts (argued a kind) a) × (r .index ≤ a .index + 1) ⌝ }
-{
-    if counts { argue(a, kind) } else { a }
+    let swept = sweep(s, offset, Sought::ArgumentIndex);
+    swept.arguments.index
 }

@@ -1,24 +1,55 @@
 -- What a turn of a loop over tokens does. A reader of the promises needs none of it.
 -- Definitions only.
 use Prim.Native.Nat.{ℕ}
-use mathlib.Core.Bool.{cond}
+use mathlib.Core.Bool.{Bool, false, cond}
 use mathlib.Core.List.{List}
-use lib.Dec.{eqb}
+use lib.Dec.{eqb, ltb}
 use Rattle.table.specs.Table.{kindAt, startAt, endAt, from}
 use Rattle.table.specs.Forest.{Forest, kids}
+use Rattle.table.specs.Tokens.{reached}
+use Rattle.table.specs.Descent.{along}
 use Rattle.table.specs.Kinds.{openingRound, bareWord, identifier}
 use Rattle.tokens.specs.declared.last_token.Name.{Name}
 use Rattle.tokens.specs.declared.last_token.Name.the-variants.{Nameless, Named}
 use Rattle.tokens.specs.declared.last_token.LastTwo.{LastTwo}
 use Rattle.tokens.specs.declared.function.Naming.{Naming}
 use Rattle.tokens.specs.declared.function.Naming.the-variants.{Open, Is}
-use Rattle.tokens.specs.Function.{bareWordIn}
+use Rattle.tokens.specs.declared.sweep.Sought.{Sought}
+use Rattle.tokens.specs.declared.sweep.Sought.the-variants.{LastToken, ArgumentIndex}
+use Rattle.tokens.specs.declared.sweep.Swept.{Swept}
+use Rattle.tokens.specs.LastToken.{counted, entered}
+use Rattle.tokens.specs.Function.{bareWordIn, opens, argued}
 
 -- ---- what a turn of a loop does
 
 -- one token on
 abbrev pub pushed : LastTwo → ℕ → ℕ → LastTwo
 pushed two s e = record { last = Named (record { start = s; end = e }); before = two .last }
+
+-- a token of kind k and start s counts for what is sought
+unfoldable pub countsFor : Sought → ℕ → ℕ → ℕ → Bool
+countsFor LastToken o k s = counted o k s
+countsFor ArgumentIndex o k s = ltb s o
+
+-- a node of kind k, from s to e, is gone into for it
+unfoldable pub entersFor : Sought → ℕ → ℕ → ℕ → ℕ → Bool
+entersFor LastToken o k s e = entered o s e
+entersFor ArgumentIndex o k s e = opens k s e
+
+-- what a token that counts makes of what was read
+unfoldable pub turned : Sought → Swept → ℕ → ℕ → ℕ → Swept
+turned LastToken w k s e = record { two = pushed (w .two) s e; arguments = w .arguments }
+turned ArgumentIndex w k s e = record { two = w .two; arguments = argued (w .arguments) k }
+
+-- nothing is read yet
+abbrev pub nothingRead : Swept
+nothingRead = record { two = record { last = Nameless; before = Nameless }; arguments = record { met = false; index = 0 } }
+
+-- what is read of the tokens that count and are reached
+unfoldable pub swept : Sought → ℕ → Forest → Swept
+swept x o f =
+    along (λ w r. turned x w (r .kind) (r .start) (r .end)) nothingRead
+    (reached (λ r. countsFor x o (r .kind) (r .start)) (λ r. entersFor x o (r .kind) (r .start) (r .end)) f)
 
 -- the range of record i as a name
 unfoldable pub nameAt : List ℕ → ℕ → Name

@@ -2,8 +2,8 @@ use native.Mathlib.Omega.{arith}
 use Rattle.tokens.specs.Function.{argued}
 use borrow.Author.Tests.{eq-eqb, ne-eqb}
 use borrow.Author.Needs.{needs}
-use Rattle.tokens.proofs.function.argue.Statement.{statement}
-use Rattle.tokens.proofs.function.argue.Tie as tie
+use Rattle.tokens.proofs.sweep.argue.Statement.{statement}
+use Rattle.tokens.proofs.sweep.argue.Tie as tie
 
 pub argue-spec : {M : Type 1} → statement M
 unfolding argued

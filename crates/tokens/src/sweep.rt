@@ -1,0 +1,167 @@
+// The reading of a stretch's tokens in document order: one loop, for whatever is sought of them.
+use crate::function::Arguments;
+use crate::last_token::LastTwo;
+use crate::last_token::Name;
+use table::kinds::AGGREGATE_FUNCTION;
+use table::kinds::COMMA;
+use table::kinds::COMMENT;
+use table::kinds::FUNCTION_CALL;
+use table::kinds::OPENING_ROUND;
+use table::kinds::WHITESPACE;
+use table::kinds::is_node;
+use table::range::Range;
+use table::record::count_of;
+use table::record::depth_at;
+use table::record::end_at;
+use table::record::kind_at;
+use table::record::start_at;
+ghost use mathlib.Core.Path.{_≡_};
+ghost use mathlib.Core.Bool.{cond};
+ghost use Prim.Native.Nat.{ℕ, _+_, _≤_, _<_};
+ghost use Rattle.table.specs.Table.{records, wordLimit};
+ghost use Rattle.table.specs.Forest.{kids};
+ghost use Rattle.tokens.specs.Function.{argued};
+ghost use Rattle.tokens.specs.inner.Turns.{countsFor, entersFor, turned, swept};
+
+// What is sought: the last token at an offset, or the index of the argument there.
+pub enum Sought {
+    LastToken,
+    ArgumentIndex,
+}
+
+// What was read so far, of either.
+pub struct Swept {
+    pub two: LastTwo,
+    pub arguments: Arguments,
+}
+
+// Nothing is read yet.
+const NOTHING_READ: Swept = Swept {
+    two: LastTwo {
+        last: Name::Nameless,
+        before: Name::Nameless,
+    },
+    arguments: Arguments {
+        met: false,
+        index: 0,
+    },
+};
+
+// Does a token of this kind and start count for what is sought?
+fn counts(sought: Sought, offset: usize, kind: usize, start: usize) -> bool
+    ensures { λ r. ⌜ r ≡ countsFor sought offset kind start ⌝ }
+{
+    match sought {
+        Sought::LastToken => (start <= offset) & !((kind == WHITESPACE) | (kind == COMMENT)),
+        Sought::ArgumentIndex => start < offset,
+    }
+}
+
+// Is a node gone into for what is sought? An empty one never, and no function's call where commas are counted.
+fn enters(sought: Sought, offset: usize, kind: usize, start: usize, end: usize) -> bool
+    ensures { λ r. ⌜ r ≡ entersFor sought offset kind start end ⌝ }
+{
+    let is_call = (kind == FUNCTION_CALL) | (kind == AGGREGATE_FUNCTION);
+    match sought {
+        Sought::LastToken => !(end < start) & (start <= offset),
+        Sought::ArgumentIndex => !(end < start) & !is_call,
+    }
+}
+
+// What a token of this kind makes of the index.
+fn argue(a: Arguments, kind: usize) -> Arguments
+    requires { ⌜ a .index < 1152921504606846976 ⌝ }
+    ensures { λ r. ⌜ (r ≡ argued a kind) × (r .index ≤ a .index + 1) ⌝ }
+{
+    if kind == OPENING_ROUND {
+        return Arguments {
+            met: true,
+            index: 0,
+        };
+    }
+    if (kind == COMMA) & a.met {
+        return Arguments {
+            met: true,
+            index: a.index + 1,
+        };
+    }
+    a
+}
+
+// What a token of this kind and span makes of what was read, if it counts.
+fn turn(sought: Sought, offset: usize, w: Swept, kind: usize, start: usize, end: usize) -> Swept
+    requires { ⌜ w .arguments .index < 1152921504606846976 ⌝ }
+    ensures { λ r. ⌜ (r ≡ cond (countsFor sought offset kind start) (turned sought w kind start end) w)
+        × (r .arguments .index ≤ w .arguments .index + 1) ⌝ }
+{
+    if !counts(sought, offset, kind, start) {
+        return w;
+    }
+    let two = w.two;
+    let arguments = w.arguments;
+    match sought {
+        Sought::LastToken => {
+            let before = two.last;
+            let last = Name::Named(Range {
+                start: start,
+                end: end,
+            });
+            Swept {
+                two: LastTwo {
+                    last: last,
+                    before: before,
+                },
+                arguments: arguments,
+            }
+        }
+        Sought::ArgumentIndex => Swept {
+            two: two,
+            arguments: argue(arguments, kind),
+        },
+    }
+}
+
+// How deep the record after a node of depth d may be: one below it where the node is gone into.
+fn reach_below(d: usize, into: bool) -> usize
+    requires { ⌜ d < wordLimit ⌝ }
+    ensures { λ r. ⌜ r ≡ cond into (d + 1) d ⌝ }
+{
+    if into { d + 1 } else { d }
+}
+
+// What is sought, below the first record of the stretch s. `reach` is how deep the next record may be, so that what stands
+// in a node that is not gone into is passed over.
+pub fn sweep(s: &[u8], offset: usize, sought: Sought) -> Swept
+    ensures { λ r. ⌜ ((base : ℕ) → r ≡ swept sought offset (kids (records base (now (s .entry))))) ⌝ }
+{
+    let mut w = NOTHING_READ;
+    let m = count_of(s);
+    if m == 0 {
+        return w;
+    }
+    let k = depth_at(s, 0) + 1;
+    let mut reach = k;
+    let mut i = 1;
+    while i < m {
+        let d = depth_at(s, i);
+        if d < k {
+            return w;
+        }
+        if reach < d {
+            i += 1;
+        } else {
+            let kind = kind_at(s, i);
+            let start = start_at(s, i);
+            let end = end_at(s, i);
+            if is_node(kind) {
+                reach = reach_below(d, enters(sought, offset, kind, start, end));
+                i += 1;
+            } else {
+                w = turn(sought, offset, w, kind, start, end);
+                reach = d;
+                i += 1;
+            }
+        }
+    }
+    w
+}
