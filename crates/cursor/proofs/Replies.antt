@@ -9,8 +9,7 @@ use borrow.Author.Tests.{eq-eqb, ne-eqb}
 use lib.ListN.{drop}
 use Rattle.table.specs.declared.check.Verdict.{Verdict}
 use Rattle.table.specs.declared.check.Verdict.the-variants.{Admitted, Refused}
-use Rattle.table.specs.Kinds.{otherNode}
-use Rattle.table.specs.Table.{recordBytes, count, records}
+use Rattle.table.specs.Table.{recordBytes, count, kindAt, records}
 use Rattle.table.specs.Forest.{kids, inside}
 use Rattle.table.specs.Rules.{verdict}
 use Rattle.table.proofs.Sense.{admitted-tidy}
@@ -21,7 +20,8 @@ use Rattle.cursor.specs.declared.context.Answer.the-variants.{GoOn, Give
 use Rattle.cursor.specs.declared.context.ContextReply.{ContextReply}
 use Rattle.cursor.specs.declared.context.ContextReply.the-variants.{Context, Refused as Denied}
 use Rattle.cursor.specs.CursorContext.{lastRule, givenOr, contextReply}
-use Rattle.cursor.specs.inner.Steps.{trailingFrom, givenBy, ruledBy, analyzed}
+use Rattle.cursor.specs.inner.Steps.{trailingFrom, givenBy, told, ruledBy, analyzed}
+use Rattle.table.proofs.Visits.{rest-kind}
 use Rattle.table.proofs.Walking.{rest-inside}
 
 module _ (src t : List ℕ) (o : ℕ) (g : Gathered) {a : Answer} (e : a ≡ trailingFrom t o (g .statement)) where
@@ -29,13 +29,13 @@ module _ (src t : List ℕ) (o : ℕ) (g : Gathered) {a : Answer} (e : a ≡ tra
   unfolding analyzed givenOr
   first-given q = rw (← e, q)
 
-  pub path-given : {x : CursorContext} {p : List ℕ} → a ≡ GoOn → (g .ruling ≡ otherNode → ⊥) → p ≡ drop (recordBytes * (g .ruled)) t
-      → ((base : ℕ) → x ≡ givenBy src o (g .constrained) (g .ruling) (kids (records base p))) → x ≡ analyzed src t o g
-  unfolding analyzed givenOr ruledBy
-  path-given q n d s = rw (← e, q, ne-eqb _ _ n) (s (g .ruled) ∙ rw (d, rest-inside t (g .ruled)))
+  pub path-given : {x : CursorContext} {p : List ℕ} → a ≡ GoOn → (g .ruling ≡ 0 → ⊥) → g .ruled < count t → p ≡ drop (recordBytes * (g .ruled)) t
+      → ((base : ℕ) → x ≡ givenBy src o (g .constrained) (g .ruling) (kindAt p 0) (kids (records base p))) → x ≡ analyzed src t o g
+  unfolding analyzed givenOr ruledBy told
+  path-given q n h d s = rw (← e, q, ne-eqb _ _ n) (s (g .ruled) ∙ rw (d, rest-kind t (g .ruled) h, rest-inside t (g .ruled)))
 
-  pub last-given : {x : CursorContext} → a ≡ GoOn → g .ruling ≡ otherNode → x ≡ lastRule src t o → x ≡ analyzed src t o g
-  unfolding analyzed givenOr ruledBy
+  pub last-given : {x : CursorContext} → a ≡ GoOn → g .ruling ≡ 0 → x ≡ lastRule src t o → x ≡ analyzed src t o g
+  unfolding analyzed givenOr ruledBy told
   last-given q n s = rw (← e, q, eq-eqb _ _ n) s
 
 module _ {v w : Verdict} (c : CursorContext) (e : v ≡ w) where

@@ -6,10 +6,10 @@ use crate::path_rules::rule_context;
 use crate::trailing::check_trailing_clause;
 use path::gathered::Gathered;
 use path::path::find_node_path;
+use path::rules::NO_RULE;
 use table::check::Verdict;
 use table::check::check;
 use table::kinds::FILE;
-use table::kinds::OTHER_NODE;
 use table::record::kind_at;
 use table::stretch::rest_from;
 use table::text::text_of;
@@ -60,7 +60,7 @@ fn analyze_path(table: &[u8], source: &[u8], offset: usize, path: Gathered) -> C
         Answer::Given(context) => return context,
         Answer::GoOn => {}
     }
-    if path.ruling != OTHER_NODE {
+    if path.ruling != NO_RULE {
         let s = rest_from(table, path.ruled);
         return rule_context(s, source, offset, path.ruling, path.constrained);
     }

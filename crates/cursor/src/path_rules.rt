@@ -1,28 +1,19 @@
 // What the rules of the path's nodes give.
 use crate::context::CursorContext;
-use table::kinds::AGGREGATE_FUNCTION;
-use table::kinds::COLUMN_CODEC;
-use table::kinds::COLUMN_DEFINITION;
-use table::kinds::COLUMN_TYPE_DEFINITION;
-use table::kinds::DATA_TYPE;
-use table::kinds::DATA_TYPE_PARAMETERS;
-use table::kinds::ENGINE_CLAUSE;
-use table::kinds::FILE;
-use table::kinds::FORMAT_CLAUSE;
-use table::kinds::FROM_CLAUSE;
-use table::kinds::FUNCTION_CALL;
-use table::kinds::GROUP_BY_CLAUSE;
-use table::kinds::HAVING_CLAUSE;
-use table::kinds::INSERT_FORMAT_CLAUSE;
-use table::kinds::INSERT_STATEMENT;
-use table::kinds::JOIN_CLAUSE;
-use table::kinds::ORDER_BY_CLAUSE;
-use table::kinds::PREWHERE_CLAUSE;
-use table::kinds::QUERY_LIST;
+use path::rules::CODEC_RULE;
+use path::rules::COLUMN_RULE;
+use path::rules::DEFINITION_RULE;
+use path::rules::ENGINE_RULE;
+use path::rules::FORMAT_RULE;
+use path::rules::FROM_RULE;
+use path::rules::FUNCTION_RULE;
+use path::rules::INSERT_RULE;
+use path::rules::JOIN_RULE;
+use path::rules::SETTINGS_RULE;
+use path::rules::START_RULE;
+use path::rules::TYPE_RULE;
 use table::kinds::SELECT_CLAUSE;
-use table::kinds::SETTING_LIST;
-use table::kinds::SETTINGS_CLAUSE;
-use table::kinds::WHERE_CLAUSE;
+use table::record::kind_at;
 use tokens::function::count_commas_before;
 use tokens::function::extract_function_name;
 use tokens::last_token::Name;
@@ -30,12 +21,12 @@ use tokens::last_token::find_identifier_before_dot;
 use tokens::last_token::is_join_word;
 use tokens::last_token::token_before_offset;
 ghost use mathlib.Core.Path.{_≡_};
-ghost use Prim.Native.Nat.{ℕ};
-ghost use Rattle.table.specs.Table.{records};
+ghost use Prim.Native.Nat.{ℕ, _<_};
+ghost use Rattle.table.specs.Table.{count, kindAt, records};
 ghost use Rattle.table.specs.Forest.{kids};
 ghost use Rattle.tokens.specs.LastToken.{lastTwo, dotted};
 ghost use Rattle.cursor.specs.inner.Steps.{givenBy};
-ghost use Rattle.cursor.specs.PathRules.{tableReference, columnOr, joined, functionArgument};
+ghost use Rattle.cursor.specs.PathRules.{tableReference, columnOr, column, joined, functionArgument};
 
 // TableReference, with a prefix after a dot.
 fn table_ref_or_dot(s: &[u8], source: &[u8], offset: usize) -> CursorContext
@@ -81,40 +72,42 @@ fn function_argument(s: &[u8], offset: usize) -> CursorContext
     }
 }
 
-// What the rule that speaks of kind gives, at the node that begins the stretch s.
+// ColumnOfTable after a dot, else by the kind of the node that begins the stretch s.
+fn column_context(s: &[u8], source: &[u8], offset: usize) -> CursorContext
+    requires { ⌜ 0 < count (now s) ⌝ }
+    ensures { λ r. ⌜ ((base : ℕ) → r ≡ column (now (source .entry)) offset (kindAt (now (s .entry)) 0) (kids (records base (now (s .entry))))) ⌝ }
+{
+    if kind_at(s, 0) == SELECT_CLAUSE {
+        return check_dot_access(s, source, offset, CursorContext::SelectExpression);
+    }
+    check_dot_access(s, source, offset, CursorContext::Expression)
+}
+
+// What the rule gives, at the node that begins the stretch s.
 pub fn rule_context(
     s: &[u8],
     source: &[u8],
     offset: usize,
-    kind: usize,
+    rule: usize,
     constrained: bool,
 ) -> CursorContext
-    ensures { λ r. ⌜ ((base : ℕ) → r ≡ givenBy (now (source .entry)) offset constrained kind (kids (records base (now (s .entry))))) ⌝ }
+    requires { ⌜ 0 < count (now s) ⌝ }
+    ensures { λ r. ⌜ ((base : ℕ) → r ≡ givenBy (now (source .entry)) offset constrained rule (kindAt (now (s .entry)) 0)
+        (kids (records base (now (s .entry))))) ⌝ }
 {
-    match kind {
-        FROM_CLAUSE => table_ref_or_dot(s, source, offset),
-        JOIN_CLAUSE => join_context(s, source, offset, constrained),
-        INSERT_STATEMENT => table_ref_or_dot(s, source, offset),
-        SETTINGS_CLAUSE => CursorContext::SettingName,
-        SETTING_LIST => CursorContext::SettingName,
-        ENGINE_CLAUSE => CursorContext::EngineName,
-        FORMAT_CLAUSE => CursorContext::FormatName,
-        INSERT_FORMAT_CLAUSE => CursorContext::FormatName,
-        COLUMN_TYPE_DEFINITION => CursorContext::DataType,
-        DATA_TYPE => CursorContext::DataType,
-        DATA_TYPE_PARAMETERS => CursorContext::DataType,
-        COLUMN_DEFINITION => CursorContext::DataType,
-        COLUMN_CODEC => CursorContext::CodecName,
-        FUNCTION_CALL => function_argument(s, offset),
-        AGGREGATE_FUNCTION => function_argument(s, offset),
-        SELECT_CLAUSE => check_dot_access(s, source, offset, CursorContext::SelectExpression),
-        PREWHERE_CLAUSE => check_dot_access(s, source, offset, CursorContext::Expression),
-        WHERE_CLAUSE => check_dot_access(s, source, offset, CursorContext::Expression),
-        GROUP_BY_CLAUSE => check_dot_access(s, source, offset, CursorContext::Expression),
-        HAVING_CLAUSE => check_dot_access(s, source, offset, CursorContext::Expression),
-        ORDER_BY_CLAUSE => check_dot_access(s, source, offset, CursorContext::Expression),
-        FILE => CursorContext::StatementStart,
-        QUERY_LIST => CursorContext::StatementStart,
+    match rule {
+        FROM_RULE => table_ref_or_dot(s, source, offset),
+        JOIN_RULE => join_context(s, source, offset, constrained),
+        INSERT_RULE => table_ref_or_dot(s, source, offset),
+        SETTINGS_RULE => CursorContext::SettingName,
+        ENGINE_RULE => CursorContext::EngineName,
+        FORMAT_RULE => CursorContext::FormatName,
+        TYPE_RULE => CursorContext::DataType,
+        DEFINITION_RULE => CursorContext::DataType,
+        CODEC_RULE => CursorContext::CodecName,
+        FUNCTION_RULE => function_argument(s, offset),
+        COLUMN_RULE => column_context(s, source, offset),
+        START_RULE => CursorContext::StatementStart,
         _ => CursorContext::Unknown,
     }
 }

@@ -1,3 +1,4 @@
 pub mod Gathers
+pub mod Kinded
 pub mod Nests
 pub mod Steps

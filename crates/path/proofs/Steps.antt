@@ -16,7 +16,8 @@ use Rattle.table.specs.Kinds.{subqueryExpression}
 use Rattle.path.specs.declared.gathered.Next.{Next}
 use Rattle.path.specs.declared.gathered.Next.the-variants.{Deepest, Above}
 use Rattle.path.specs.declared.gathered.Gathered.{Gathered}
-use Rattle.path.specs.inner.Gathered.{decides, settled, stepped, nothing, gathered, Within}
+use Rattle.path.specs.inner.Rules.{ruleOf}
+use Rattle.path.specs.inner.Gathered.{settled, stepped, nothing, gathered, Within}
 
 less : (n a b : ℕ) (c : Bool) → a < n → b < n → cond c a b < n
 less n a b true p q = p
@@ -29,7 +30,7 @@ most n a b false p q = q
 settled-within : (g : Gathered) (x : Next) (n : ℕ) → Within n g → Within n (settled g x)
 unfolding settled
 settled-within g x n w =
-    record { node = w .node; ruled = less n _ _ (decides (g .kind) x) (w .node) (w .ruled); statement = w .statement; query = w .query }
+    record { node = w .node; ruled = less n _ _ (eqb (ruleOf (g .kind) x) 0) (w .ruled) (w .node); statement = w .statement; query = w .query }
 
 stepped-within : (g : Gathered) (k i n : ℕ) → Within n g → i < n → Within n (stepped g k i)
 unfolding stepped

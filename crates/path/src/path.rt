@@ -2,9 +2,9 @@
 use crate::gathered::Gathered;
 use crate::gathered::NOTHING;
 use crate::gathered::Next;
-use crate::gathered::chosen;
 use crate::gathered::enter;
 use crate::gathered::settle;
+use crate::rules::chosen;
 use table::range::is_holder;
 use table::record::count_of;
 use table::record::kind_at;

@@ -13,7 +13,7 @@ analyze-path-spec =
     (λ c. first-given _ _ _ _ (c .before .before .before .check-trailing-clause .ensures) (c .before .context .given .1))  -- returns
     (λ c. search needs)  -- enum-told
     (λ c κs. omega arith)  -- rest-from-requires
-    (λ c κs. search needs)  -- rule-context-requires
-    (λ c. path-given _ _ _ _ (c .before .before .before .before .before .before .check-trailing-clause .ensures) (cc) (c .before .before .if1 .taken) (c .before .rest-from .ensures .0) (c .rule-context .ensures))  -- returns-2
+    (λ c κs. omega arith)  -- rule-context-requires
+    (λ c. path-given _ _ _ _ (c .before .before .before .before .before .before .check-trailing-clause .ensures) (cc) (c .before .before .if1 .taken) (omega arith) (c .before .rest-from .ensures .0) (c .rule-context .ensures))  -- returns-2
     (λ c κs. omega arith)  -- at-statement-start-requires
     (λ c. last-given _ _ _ _ (c .before .before .before .before .before .check-trailing-clause .ensures) (cc) (c .before .if1 .left) (c .at-statement-start .ensures)))  -- returns-3

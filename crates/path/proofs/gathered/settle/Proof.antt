@@ -8,7 +8,7 @@ pub settle-spec : {M : Type 1} → statement M
 settle-spec =
     tie.close
     (tie.spec
-    (λ c κs. search needs)  -- decides-requires
+    (λ c κs. search needs)  -- rule-of-requires
     (λ c κs. search needs)  -- chosen-requires
     (λ c κs. search needs)  -- chosen-requires-2
-    (λ c. settles _ _ _ (unfold settled in simp (c .before .before .decides .ensures, c .before .chosen .ensures, c .chosen2 .ensures))))  -- returns
+    (λ c. settles _ _ _ (unfold settled in simp (c .before .before .rule-of .ensures, c .before .chosen .ensures, c .chosen2 .ensures))))  -- returns

@@ -1,7 +1,7 @@
 use Rattle.path.specs.Path.{isDeepest}
 use borrow.Author.Needs.{needs}
-use Rattle.path.proofs.gathered.is_deepest.Statement.{statement}
-use Rattle.path.proofs.gathered.is_deepest.Tie as tie
+use Rattle.path.proofs.rules.is_deepest.Statement.{statement}
+use Rattle.path.proofs.rules.is_deepest.Tie as tie
 
 pub is-deepest-spec : {M : Type 1} → statement M
 unfolding isDeepest

@@ -1,7 +1,7 @@
 use Rattle.path.specs.Path.{deepestOver}
 use borrow.Author.Needs.{needs}
-use Rattle.path.proofs.gathered.deepest_over.Statement.{statement}
-use Rattle.path.proofs.gathered.deepest_over.Tie as tie
+use Rattle.path.proofs.rules.deepest_over.Statement.{statement}
+use Rattle.path.proofs.rules.deepest_over.Tie as tie
 
 pub deepest-over-spec : {M : Type 1} → statement M
 unfolding deepestOver
