@@ -66,6 +66,6 @@ pub chosen-taken : (b : Bool) {i old new : ℕ} → new ≡ cond b i old → old
 chosen-taken true e z h = (refl, e)
 chosen-taken false e z h = absurd (omega arith)
 
-pub chosen-passed : (b : Bool) {i old new : ℕ} → new ≡ cond b i old → old ≡ 0 → new ≡ 0 → 1 ≤ i → b ≡ false
-chosen-passed true e z n h = absurd (omega arith)
-chosen-passed false e z n h = refl
+pub chosen-passed : (b : Bool) {x : Bool} {i old new : ℕ} → b ≡ x → new ≡ cond b i old → old ≡ 0 → new ≡ 0 → 1 ≤ i → x ≡ false
+chosen-passed true q e z n h = absurd (omega arith)
+chosen-passed false q e z n h = sym q

@@ -28,9 +28,9 @@ use Rattle.table.proofs.Walking.{Walks}
 -- ---- the first direct BareWord
 
 module _ {s : List ℕ} {i : ℕ} (w : Walks s i bareWordIn bareWordIn) (h : i < count s) where
-  pub bare-here : kindAt s i ≡ bareWord → (base : ℕ) → nameAt s i ≡ bareWordIn (kids (records base s))
+  pub bare-here : {k : ℕ} → k ≡ kindAt s i → k ≡ bareWord → (base : ℕ) → nameAt s i ≡ bareWordIn (kids (records base s))
   unfolding nameAt bareWordIn recordAt
-  bare-here e base = rw (eq-eqb _ _ e) at (walk-here (w .at base) h (omega arith))
+  bare-here q e base = rw (← q, eq-eqb _ _ e) at (walk-here (w .at base) h (omega arith))
 
   pub bare-next : {r : ℕ} → (kindAt s i ≡ bareWord → ⊥) → Child s (i + 1) r → Walks s r bareWordIn bareWordIn
   unfolding bareWordIn recordAt

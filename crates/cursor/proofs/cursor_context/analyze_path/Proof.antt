@@ -14,6 +14,6 @@ analyze-path-spec =
     (λ c. search needs)  -- enum-told
     (λ c κs. omega arith)  -- rest-from-requires
     (λ c κs. omega arith)  -- rule-context-requires
-    (λ c. path-given _ _ _ _ (c .before .before .before .before .before .before .check-trailing-clause .ensures) (cc) (c .before .before .if1 .taken) (omega arith) (c .before .rest-from .ensures .0) (c .rule-context .ensures))  -- returns-2
+    (λ c. path-given _ _ _ _ (c .before .before .before .before .before .before .check-trailing-clause .ensures) (c .before .before .before .before .enum-told .given .1) (c .before .before .if1 .taken) (omega arith) (c .before .rest-from .ensures .0) (c .rule-context .ensures))  -- returns-2
     (λ c κs. omega arith)  -- at-statement-start-requires
-    (λ c. last-given _ _ _ _ (c .before .before .before .before .before .check-trailing-clause .ensures) (cc) (c .before .if1 .left) (c .at-statement-start .ensures)))  -- returns-3
+    (λ c. last-given _ _ _ _ (c .before .before .before .before .before .check-trailing-clause .ensures) (c .before .before .before .enum-told .given .1) (c .before .if1 .left) (c .at-statement-start .ensures)))  -- returns-3

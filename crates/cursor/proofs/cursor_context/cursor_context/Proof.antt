@@ -12,6 +12,6 @@ cursor-context-spec =
     (λ c κs. search needs)  -- check-requires
     (λ c. omega arith)  -- enum-known-k
     (λ c. search needs)  -- enum-told
-    (λ c κs. admitted-sized _ _ (c .before .before .check .ensures) (cc))  -- context-at-requires
+    (λ c κs. admitted-sized _ _ (c .before .before .check .ensures) (c .enum-told .given .1))  -- context-at-requires
     (λ c. reply-refused _ (c .before .before .before .check .ensures) (c .before .k .given .1))  -- returns
-    (λ c. reply-given _ (c .before .before .before .check .ensures) (cc) (c .context-at .ensures)))  -- returns-2
+    (λ c. reply-given _ (c .before .before .before .check .ensures) (c .before .enum-told .given .1) (c .context-at .ensures)))  -- returns-2

@@ -11,5 +11,5 @@ check-dot-access-spec =
     (λ c κs. search needs)  -- find-identifier-before-dot-requires
     (λ c. search needs)  -- enum-told
     (λ c. search needs)  -- enum-known-range
-    (λ c. λ base. rw (← c .before .before .before .token-before-offset .ensures base, ← c .before .before .find-identifier-before-dot .ensures) (column-none (cc)))  -- returns
+    (λ c. λ base. rw (← c .before .before .before .token-before-offset .ensures base, ← c .before .before .find-identifier-before-dot .ensures) (column-none (c .enum-told .given .1)))  -- returns
     (λ c. λ base. rw (← c .before .before .before .before .token-before-offset .ensures base, ← c .before .before .before .find-identifier-before-dot .ensures) (column-some _ (c .before .range .given .1))))  -- returns-2

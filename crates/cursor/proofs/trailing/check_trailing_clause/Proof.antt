@@ -15,6 +15,6 @@ check-trailing-clause-spec =
     (λ c. search needs)  -- enum-told
     (λ c. search needs)  -- enum-known-kind
     (λ c κs. search needs)  -- past-clause-requires
-    (λ c. trailed _ _ _ (c .before .before .before .before .if1 .left) (c .before .before .before .rest-from .ensures .0) (c .before .before .last-clause .ensures) (past-none _ (cc)))  -- returns-2
+    (λ c. trailed _ _ _ (c .before .before .before .before .if1 .left) (c .before .before .before .rest-from .ensures .0) (c .before .before .last-clause .ensures) (past-none _ (c .enum-told .given .1)))  -- returns-2
     (λ c. trailed _ _ _ (c .before .before .before .before .before .before .before .if1 .left) (c .before .before .before .before .before .before .rest-from .ensures .0) (c .before .before .before .before .before .last-clause .ensures) (past-over _ (c .before .before .before .kind .given .1) (c .before .if2 .taken) (c .past-clause .ensures)))  -- returns-3
     (λ c. trailed _ _ _ (c .before .before .before .before .before .before .if1 .left) (c .before .before .before .before .before .rest-from .ensures .0) (c .before .before .before .before .last-clause .ensures) (past-not _ (c .before .before .kind .given .1) (c .if2 .left))))  -- returns-4

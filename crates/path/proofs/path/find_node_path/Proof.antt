@@ -3,7 +3,7 @@ use Rattle.path.specs.inner.Gathered.{Within, nothing}
 use Rattle.table.proofs.Descents.{answer, Down, Level, descent-start, descent-walk, descent-on, descent-tail, descent-end}
 use Rattle.table.specs.Table.{count, records, recordAt}
 use mathlib.Core.Logic.{⊎-elim}
-use mathlib.Core.Path.{_≡_, _∙_}
+use mathlib.Core.Path.{_≡_, sym, _∙_}
 use Prim.Native.Nat.{_-_, _+_, _≤_, _<_}
 use native.Mathlib.Omega.{arith}
 use Rattle.path.proofs.path.find_node_path.Statement.{statement}
@@ -32,7 +32,7 @@ find-node-path-spec =
     μ-descent
     (λ c κs. omega arith)  -- kind-at-requires
     (λ c κs. omega arith)  -- enter-requires
-    (λ c. (omega arith, c .enter .ensures .1 _ (nothing-within _ (omega arith)) (omega arith), descent-start (way _) _ nothing (omega arith) (cc)))  -- descent-holds
+    (λ c. (omega arith, c .enter .ensures .1 _ (nothing-within _ (omega arith)) (omega arith), descent-start (way _) _ nothing (omega arith) (rw (← c .before .kind-at .ensures .0) (c .enter .ensures .0))))  -- descent-holds
     (λ c κs. omega arith)  -- count-of-requires
     (λ c κs. omega arith)  -- child-from-requires
     (λ c. (omega arith, descent-walk (c .before .before .descent .inv .2) (omega arith) (c .child-from .ensures)))  -- loop-holds
@@ -41,7 +41,7 @@ find-node-path-spec =
     (λ c. omega arith)  -- add-child-from
     (λ c κs. omega arith)  -- child-from-requires-2
     (λ c. omega arith)  -- loop-less
-    (λ c. let p = chosen-passed (c .before .before .before .is-holder .result) (c .before .before .chosen .ensures) (omega arith) (omega arith) (omega arith) in (omega arith, descent-on (c .before .before .before .before .before .loop .inv .1) (omega arith) (cc) (c .child-from2 .ensures)))  -- loop-again
+    (λ c. let p = chosen-passed (c .before .before .before .is-holder .result) (c .before .before .before .is-holder .ensures) (c .before .before .chosen .ensures) (omega arith) (omega arith) (omega arith) in (omega arith, descent-on (c .before .before .before .before .before .loop .inv .1) (omega arith) p (c .child-from2 .ensures)))  -- loop-again
     (λ c κs. ⊎-elim (λ w. omega arith) (λ w. omega (arith, chosen-taken (w .1 .result) (w .2 .ensures) (omega arith) (w .3 .taken) .1)) (c .before .if1 .came))  -- kind-at-requires-2
     (λ c κs. ⊎-elim (λ w. omega arith) (λ w. omega (arith, chosen-taken (w .1 .result) (w .2 .ensures) (omega arith) (w .3 .taken) .1)) (c .before .before .if1 .came))  -- rest-from-requires
     (λ c. ⊎-elim (λ w. omega arith) (λ w. omega (arith, chosen-taken (w .1 .result) (w .2 .ensures) (omega arith) (w .3 .taken) .1)) (c .before .before .before .before .if1 .came))  -- add-base
@@ -53,7 +53,7 @@ find-node-path-spec =
     (λ w.
     let q = chosen-taken (w .1 .result) (w .2 .ensures) (omega arith) (w .3 .taken) in
     let e : c .before .before .before .before .before .if1 .found ≡ c .before .before .before .before .before .before .loop .i = w .5 ∙ q .1 in
-    (omega arith, c .enter2 .ensures .1 _ (c .before .before .before .before .before .before .before .before .before .descent .inv .1) (omega arith), rw e (descent-tail (c .before .before .before .before .before .before .loop .inv .1) (omega arith) (cc) (cc) (cc))))
+    (omega arith, c .enter2 .ensures .1 _ (c .before .before .before .before .before .before .before .before .before .descent .inv .1) (omega arith), rw e (descent-tail (c .before .before .before .before .before .before .loop .inv .1) (omega arith) (sym (w .1 .ensures) ∙ q .0) (rw (← e) (c .before .before .rest-from .ensures .0)) (rw (← e, ← c .before .before .before .kind-at2 .ensures .0) (c .enter2 .ensures .0)))))
     (c .before .before .before .before .before .if1 .came))  -- descent-again
     (λ c κs. omega arith)  -- settle-requires
     (λ c. (⊎-elim (λ w. c .settle .ensures .0 ∙ (descent-end (c .before .before .before .loop .inv .1) (omega arith) ∙ way-gathered _ _)) (λ w. absurd (omega arith)) (c .before .before .if1 .came), c .settle .ensures .1 _ (c .before .before .before .before .before .before .descent .inv .1))))  -- returns

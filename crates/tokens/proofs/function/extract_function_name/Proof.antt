@@ -31,5 +31,5 @@ extract-function-name-spec =
     (λ c. omega arith)  -- add-child-from
     (λ c κs. omega arith)  -- child-from-requires-2
     (λ c. omega arith)  -- loop-less
-    (λ c. (omega arith, name-next (c .before .before .before .before .before .loop .inv .1) (omega arith) (c .before .before .before .name-at .ensures) (cc) (c .child-from2 .ensures)))  -- loop-again
+    (λ c. (omega arith, name-next (c .before .before .before .before .before .loop .inv .1) (omega arith) (c .before .before .before .name-at .ensures) (c .before .enum-told .given .1) (c .child-from2 .ensures)))  -- loop-again
     (λ c. walks-end (c .before .loop .inv .1) (omega arith)))  -- returns-3

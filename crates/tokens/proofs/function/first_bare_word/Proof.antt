@@ -25,7 +25,7 @@ first-bare-word-spec =
     (λ c. (omega arith, walks-start _ bareWordIn (omega arith) (c .child-from .ensures)))  -- loop-holds
     (λ c κs. omega arith)  -- kind-at-requires
     (λ c κs. omega arith)  -- token-at-requires
-    (λ c. rw (c .token-at .ensures) (bare-here (c .before .before .before .before .loop .inv .1) (omega arith) (cc)))  -- returns-2
+    (λ c. rw (c .token-at .ensures) (bare-here (c .before .before .before .before .loop .inv .1) (omega arith) (c .before .before .kind-at .ensures .0) (c .before .if2 .taken)))  -- returns-2
     (λ c. omega arith)  -- add-child-from
     (λ c κs. omega arith)  -- child-from-requires-2
     (λ c. omega arith)  -- loop-less

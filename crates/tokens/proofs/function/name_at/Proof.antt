@@ -20,6 +20,6 @@ name-at-spec =
     (λ c κs. search needs)  -- first-bare-word-requires
     (λ c. search needs)  -- enum-told
     (λ c. search needs)  -- enum-known-range
-    (λ c. λ base. rw (← c .before .before .before .before .before .before .before .kind-at .ensures .0, ne-eqb _ _ (c .before .before .before .before .before .before .if1 .left), ne-eqb _ _ (c .before .before .before .before .before .if2 .left), eq-eqb _ _ (c .before .before .before .before .if3 .taken), named-in _ base _ (c .before .before .before .rest-from .ensures .0) (c .before .before .first-bare-word .ensures)) (naming-none (cc)))  -- returns-3
+    (λ c. λ base. rw (← c .before .before .before .before .before .before .before .kind-at .ensures .0, ne-eqb _ _ (c .before .before .before .before .before .before .if1 .left), ne-eqb _ _ (c .before .before .before .before .before .if2 .left), eq-eqb _ _ (c .before .before .before .before .if3 .taken), named-in _ base _ (c .before .before .before .rest-from .ensures .0) (c .before .before .first-bare-word .ensures)) (naming-none (c .enum-told .given .1)))  -- returns-3
     (λ c. λ base. rw (← c .before .before .before .before .before .before .before .before .kind-at .ensures .0, ne-eqb _ _ (c .before .before .before .before .before .before .before .if1 .left), ne-eqb _ _ (c .before .before .before .before .before .before .if2 .left), eq-eqb _ _ (c .before .before .before .before .before .if3 .taken), named-in _ base _ (c .before .before .before .before .rest-from .ensures .0) (c .before .before .before .first-bare-word .ensures)) (naming-some (c .before .range .given .1)))  -- returns-4
     (λ c. λ base. rw (← c .before .before .before .kind-at .ensures .0, ne-eqb _ _ (c .before .before .if1 .left), ne-eqb _ _ (c .before .if2 .left), ne-eqb _ _ (c .if3 .left))))  -- returns-5
