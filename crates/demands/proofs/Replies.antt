@@ -30,7 +30,7 @@ use Rattle.statement.specs.declared.statement.Enclosing.{Enclosing}
 use Rattle.statement.specs.declared.statement.Enclosing.the-variants.{Outside, Record}
 use Rattle.statement.specs.Statement.{told, statementReply}
 use Rattle.offers.specs.Root.{rootReply}
-use Rattle.desk.specs.Reply.{packed, answered, verdictReply, listReply, hintRecord, hintReply, statementNumber, rootNumber}
+use Rattle.replies.specs.Reply.{packed, answered, verdictReply, listReply, hintRecord, hintReply, statementNumber, rootNumber}
 use Rattle.demands.specs.declared.Question.{Question}
 use Rattle.demands.specs.Questions.{Asked, Said, number, Matter, plain, ofRoot, list, statementRecord, matter, answerOf, saidBytes, written}
 use Rattle.demands.specs.Demand1.{NoNode, Holds, of-table, of-root, of-room, placeIn, First, Refusal, Answer, Refuses, Demand1}

@@ -11,7 +11,7 @@ use lib.ListN.{length}
 use lib.Dec.{eqb}
 use Rattle.table.specs.Table.{count, kindAt}
 use Rattle.table.specs.Exactly.{Node, Broken, place}
-use Rattle.desk.specs.Reply.{packed, answered}
+use Rattle.replies.specs.Reply.{packed, answered}
 use Rattle.demands.specs.declared.Question.{Question}
 use Rattle.demands.specs.Questions.{Asked, Matter, matter, answerOf, saidBytes}
 

@@ -15,7 +15,7 @@ use Rattle.tables.specs.Tables.{referenceRow}
 use Rattle.statement.specs.Statement.{enclosingAt}
 use Rattle.cursor.specs.CursorContext.{contextAt}
 use Rattle.offers.specs.Root.{rootAt}
-use Rattle.desk.specs.Reply.{noRecord as nothing, hintRecord, contextRow}
+use Rattle.replies.specs.Reply.{noRecord as nothing, hintRecord, contextRow}
 use Rattle.demands.specs.declared.Question.{Question}
 use Rattle.demands.specs.declared.Question.the-variants.{Check, TokenClasses, OpenersLeft, BracketHint, WithNames, TableAliases, ColumnAliases, TableRefs, CursorContext, EnclosingStatement, CursorRoot, WithNamesAt, TableAliasesAt, ColumnAliasesAt, TableRefsAt}
 

@@ -28,7 +28,7 @@ use Rattle.cursor.specs.PathRules.{columnOr, column, pathRules, ruled, elseAsk 
 use Rattle.cursor.specs.CursorContext.{lastRule, givenOr, contextAt}
 use Rattle.cursor.specs.Context.{rangeOf, coded}
 use Rattle.offers.specs.Root.{statementOr, rootOf, rootAt}
-use Rattle.desk.specs.Reply.{contextRow}
+use Rattle.replies.specs.Reply.{contextRow}
 use Rattle.demands.specs.declared.Question.the-variants.{CursorContext, TableAliases, TableRefs, TableAliasesAt, TableRefsAt}
 use Rattle.demands.specs.Questions.{Asked, asked, rows, matter}
 use Rattle.table.specs.Ranges.{absentNumber}

@@ -2,20 +2,17 @@
 // its low 32 bits are the refusal's number, 0 where the question is answered, and its high 32 bits the detail or the answer.
 pub mod at_cursor;
 
-use brackets::bracket_matching::Hint;
-use brackets::bracket_matching::HintReply;
 use brackets::bracket_matching::bracket_hint;
 use brackets::bracket_matching::openers_left;
+use replies::reply::hint_reply;
+use replies::reply::list_reply;
+use replies::reply::verdict_reply;
 use scope::scope::column_aliases;
 use scope::scope::table_aliases;
 use scope::scope::table_refs;
 use scope::scope::with_names;
 use scope::semantic_tokens::token_classes;
-use table::check::Verdict;
 use table::check::check;
-use table::list::Listed;
-use table::range::ABSENT;
-use table::record::WORD_LIMIT;
 ghost use mathlib.Core.Path.{_≡_};
 ghost use lib.ListN.{length};
 ghost use Rattle.table.specs.Rules.{rules, rootRules, verdict};
@@ -24,63 +21,7 @@ ghost use Rattle.brackets.specs.Brackets.{openerRow as openerRow, stackLeft, op
 ghost use Rattle.names.specs.Bindings.{bindingRow};
 ghost use Rattle.tables.specs.Tables.{referenceRow};
 ghost use Rattle.scope.specs.Scope.{withNames, tableAliases, columnAliases, tableRefs};
-ghost use Rattle.desk.specs.Reply.{packed, verdictReply, listReply, hintRecord, hintReply, AnswersC};
-
-// How many values a half of a reply has.
-const HALF: u64 = WORD_LIMIT as u64;
-
-// The low half of an answer.
-pub const ANSWERED: u32 = 0;
-
-// The high half where the answer is that there is none.
-pub const NONE: u32 = ABSENT as u32;
-
-// Two halves as one number.
-pub fn packed(low: u32, high: u32) -> u64
-    ensures { λ r. ⌜ r ≡ packed low high ⌝ }
-{
-    low as u64 + HALF * (high as u64)
-}
-
-// The number of a verdict.
-fn verdict_reply(v: Verdict) -> u64
-    ensures { λ r. ⌜ r ≡ verdictReply v ⌝ }
-{
-    match v {
-        Verdict::Admitted => packed(ANSWERED, 0),
-        Verdict::Refused(k, d) => packed(k, d),
-    }
-}
-
-// The number of a reply to a question for a list.
-pub fn list_reply(l: Listed) -> u64
-    ensures { λ r. ⌜ r ≡ listReply l ⌝ }
-{
-    match l {
-        Listed::Entries(n) => packed(ANSWERED, n),
-        Listed::Refused(k, d) => packed(k, d),
-    }
-}
-
-// The record of a hint, or none.
-fn hint_record(h: Hint) -> u32
-    ensures { λ r. ⌜ r ≡ hintRecord h ⌝ }
-{
-    match h {
-        Hint::Opener(i) => i,
-        Hint::NoOpener => NONE,
-    }
-}
-
-// The number of a reply to the question for the hint.
-fn hint_reply(h: HintReply) -> u64
-    ensures { λ r. ⌜ r ≡ hintReply h ⌝ }
-{
-    match h {
-        HintReply::Hinted(x) => packed(ANSWERED, hint_record(x)),
-        HintReply::Refused(k, d) => packed(k, d),
-    }
-}
+ghost use Rattle.replies.specs.Reply.{verdictReply, hintReply, AnswersC};
 
 // Is the table admitted? High half of an answer: 0.
 #[no_mangle]

@@ -21,7 +21,7 @@ use Rattle.names.specs.Names.{isAs, isPart, isName, direct, unquoted, nameOf, b
 use Rattle.scope.specs.Collection.{nodeGives, collected, collection, ownWith, ownColumns, ownTables}
 use Rattle.names.specs.Bindings.{entry, boundIn}
 use Rattle.tables.specs.Tables.{fresh, aliased, handOn, listAlias, tableReading}
-use Rattle.statement.specs.Statement.{orElse as orFound, firstFind, enclosingAt}
+use Rattle.statement.specs.Statement.{orElse, firstFind, enclosingAt}
 use Rattle.path.specs.Path.{deepestOr, onPath, nextOf, isDeepest, deepestOver}
 use Rattle.tokens.specs.LastToken.{lastOr, init, lastTwo, isText, isWord, dotted, isJoinWord}
 use Rattle.tokens.specs.Function.{bareWordIn, orName, functionName, argued, arguments}
@@ -129,5 +129,5 @@ expecting [] = []
 expecting (c ∷ cs) = c .prints ∷ expecting cs
 
 worked : printing cases ≡ expecting cases
-unfolding printing expecting cases ended glyph chain word recordAt run from level kids extent stretchEnd misplaced lastEnd badSpan rulesFrom rowBytes listBytes text bytesOf upper says only tokensOf path pathOf along isKeyword keywords between judged bareword byParent classOf numberOf entryOf classes fits closed stackStep left isAs isPart isName direct unquoted nameOf binding firstNamed lastNamed nodeGives collected collection entry boundIn fresh aliased handOn listAlias tableReading ownWith ownColumns ownTables orFound firstFind enclosingAt deepestOr onPath lastOr init lastTwo isText isWord dotted isJoinWord bareWordIn orName functionName argued arguments lastClause pastClause pastEnd trailingIn nextOf isDeepest deepestOver tableReference joined functionArgument columnOr column pathRules ruled elseAsk byPath startsAfter lastRule givenOr contextAt rangeOf referenceNumber coded begun lines isDigit value allDigits isHex isSource isNumbers faulty recordRules spelt pairs firstBytes fieldsOf digits decimal range fields ranges printed printedList contextLine statementLine answerText questionVerdict unlessRefused repliedTo
+unfolding printing expecting cases ended glyph chain word recordAt run from level kids extent stretchEnd misplaced lastEnd badSpan rulesFrom rowBytes listBytes text bytesOf upper says only tokensOf path pathOf along isKeyword keywords between judged bareword byParent classOf numberOf entryOf classes fits closed stackStep left isAs isPart isName direct unquoted nameOf binding firstNamed lastNamed nodeGives collected collection entry boundIn fresh aliased handOn listAlias tableReading ownWith ownColumns ownTables orElse firstFind enclosingAt deepestOr onPath lastOr init lastTwo isText isWord dotted isJoinWord bareWordIn orName functionName argued arguments lastClause pastClause pastEnd trailingIn nextOf isDeepest deepestOver tableReference joined functionArgument columnOr column pathRules ruled elseAsk byPath startsAfter lastRule givenOr contextAt rangeOf referenceNumber coded begun lines isDigit value allDigits isHex isSource isNumbers faulty recordRules spelt pairs firstBytes fieldsOf digits decimal range fields ranges printed printedList contextLine statementLine answerText questionVerdict unlessRefused repliedTo
 worked = refl

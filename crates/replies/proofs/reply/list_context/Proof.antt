@@ -1,11 +1,11 @@
-use Rattle.desk.specs.Reply.{contextRow}
+use Rattle.replies.specs.Reply.{contextRow}
 use Rattle.table.proofs.Writes.{written-one, length-wide, list-short, list-filled}
 use mathlib.Core.Path.{refl, sym}
 use mathlib.Core.List.{[], _∷_}
 use native.Mathlib.Omega.{arith}
 use borrow.Author.Needs.{needs}
-use Rattle.desk.proofs.at_cursor.list_context.Statement.{statement}
-use Rattle.desk.proofs.at_cursor.list_context.Tie as tie
+use Rattle.replies.proofs.reply.list_context.Statement.{statement}
+use Rattle.replies.proofs.reply.list_context.Tie as tie
 
 pub list-context-spec : {M : Type 1} → statement M
 unfolding contextRow

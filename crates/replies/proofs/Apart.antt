@@ -21,7 +21,7 @@ use Rattle.statement.specs.declared.statement.StatementReply.{StatementReply}
 use Rattle.statement.specs.declared.statement.StatementReply.the-variants.{Statement, NoStatement, Refused as Unstated}
 use Rattle.offers.specs.declared.root.RootReply.{RootReply}
 use Rattle.offers.specs.declared.root.RootReply.the-variants.{Root, Refused as Unrooted}
-use Rattle.desk.specs.Reply.{half, noRecord, packed, verdictReply, listReply, hintRecord, hintReply, statementNumber, rootNumber}
+use Rattle.replies.specs.Reply.{half, noRecord, packed, verdictReply, listReply, hintRecord, hintReply, statementNumber, rootNumber}
 
 -- the halves of a number come back
 pub halves : (a b c d : ℕ) → a < half → c < half → packed a b ≡ packed c d → (a ≡ c) × (b ≡ d)

@@ -13,7 +13,7 @@ use Rattle.cursor.specs.declared.context.CursorContext.{CursorContext}
 use Rattle.cursor.specs.declared.context.ContextReply.the-variants.{Context, Refused as Denied}
 use Rattle.cursor.specs.CursorContext.{contextReply}
 use Rattle.cursor.proofs.Replies.{refused-is, given-is}
-use Rattle.desk.specs.Reply.{contextRow}
+use Rattle.replies.specs.Reply.{contextRow}
 
 module _ (t : List ℕ) (n : ℕ) (x : CursorContext) (out : List ℕ) where
   pub context-refused : {k d : ℕ} → Denied k d ≡ contextReply (verdict t n 0) x
