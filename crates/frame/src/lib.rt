@@ -2,7 +2,13 @@
 use lines::input::BAD_LINE;
 use lines::input::Frame;
 use lines::input::MOST_BYTES;
+use lines::input::MOST_LINES;
+use lines::input::OFFSET_DIGITS;
+use lines::input::RECORD_DIGITS;
+use lines::input::TABLE_ROOM;
 use lines::input::read_frame;
+use report::output::LINE_ROOM;
+use report::output::MOST_REFERENCES;
 use report::output::put_refusal;
 use report::output::put_reply;
 use table::record::RECORD_BYTES;
@@ -12,14 +18,15 @@ ghost use Prim.Native.Nat.{_≤_};
 ghost use lib.ListN.{length, drop};
 ghost use Rattle.frame.specs.Glance.{glanced};
 
-// How many bytes of room the table of a frame has: 1,024 records.
-const TABLE_ROOM: usize = 16384;
+// How many bytes of room every answer has: a line for the context, the statement and the end, and one for each reference, token and opener.
+pub const TEXT_ROOM: usize = LINE_ROOM * (3 + MOST_REFERENCES + 2 * MOST_LINES);
 
-// How many bytes of room every answer has: 79 for each line that there can be.
-pub const TEXT_ROOM: usize = 208244;
-
-// How many bytes of an input matter (specs/Enough.antt): a longer one has a fault within them.
-pub const INPUT_ROOM: usize = 29707;
+// How many bytes of an input matter (specs/Enough.antt): a longer one has a fault within them. The source's line, the offset's, a line for
+// each record, and one byte more.
+pub const INPUT_ROOM: usize = (2 * MOST_BYTES + 1)
+    + (OFFSET_DIGITS + 1)
+    + MOST_LINES * (RECORD_DIGITS + 1)
+    + 1;
 
 // Reads a frame, asks the questions and writes what glance prints, from out's first byte on. Returns how many bytes that is.
 pub fn glance(input: &[u8], out: &mut [u8; TEXT_ROOM]) -> usize

@@ -89,9 +89,9 @@ unfoldable pub faulty : (Line → Bool) → List Line → Bool
 faulty form [] = true
 faulty form (l ∷ ls) = not (form l)
 
--- the last line that may hold a record
+-- the last line that may hold a record: two stand before them
 abbrev pub lastLine : ℕ
-lastLine = 1026
+lastLine = 2 + mostLines
 
 -- the lines from line i on: a record each
 unfoldable pub recordRules : ℕ → List Line → List Rule

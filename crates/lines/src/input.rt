@@ -17,18 +17,23 @@ pub const BAD_LINE: u32 = 9;
 // What ends a line.
 const LF: u8 = 10;
 
-// The most bytes of a source.
+// The most bytes of a source, and the most records.
 pub const MOST_BYTES: usize = 4096;
 
-// How many digits the line of an offset has, and that of a record.
-const OFFSET_DIGITS: usize = 8;
+pub const MOST_LINES: usize = 1024;
 
-const RECORD_DIGITS: usize = 20;
+// How many digits the line of an offset has, and that of a record.
+pub const OFFSET_DIGITS: usize = 8;
+
+pub const RECORD_DIGITS: usize = 20;
 
 // The places of the first record's line and of the last that there may be, counted from 1.
 const RECORD_LINE: usize = 3;
 
-const LAST_LINE: usize = 1026;
+const LAST_LINE: usize = RECORD_LINE + MOST_LINES - 1;
+
+// How many bytes of room the table of a frame has.
+pub const TABLE_ROOM: usize = MOST_LINES * RECORD_BYTES;
 
 // What the reading of the records' lines finds.
 pub enum Records {

@@ -3,7 +3,7 @@
 -- `numbered` proves of document 01's rules; and that a hint or a statement names a record below `none`, as
 -- every record of a table is.
 use Prim.Native.Nat.{ℕ, zero, suc, _<_}
-use mathlib.Core.Path.{_≡_, refl}
+use mathlib.Core.Path.{_≡_, refl, sym, ap, _∙_}
 use mathlib.Core.Bool.{Bool, true, false, cond}
 use mathlib.Core.List.{List, [], _∷_, _++_}
 use native.Mathlib.Omega.{arith}
@@ -33,37 +33,15 @@ pub record Numbers (k d : ℕ) : Type 0 where
   pub low : k < half
   pub high : d < half
 
-unfoldable pub Verdicts : Verdict → Type 0
-Verdicts Admitted = 0 < half
-Verdicts (Refused k d) = Numbers k d
+-- one kind of reply is told apart as another is, where each comes back from what it is read as
+through : {R S : Type 0} (read : R → S) (back : S → R) → ((v : R) → back (read v) ≡ v) → (v w : R) → read v ≡ read w → v ≡ w
+through read back same v w e = sym (same v) ∙ ap back e ∙ same w
+
+-- ---- a number or a refusal: a list; a root and a verdict are read as one
 
 unfoldable pub Lists : Listed → Type 0
 Lists (Entries n) = n < half
 Lists (Denied k d) = Numbers k d
-
-unfoldable pub Hints : HintReply → Type 0
-Hints (Hinted (Opener i)) = i < noRecord
-Hints (Hinted NoOpener) = 0 < noRecord
-Hints (Unhinted k d) = Numbers k d
-
-unfoldable pub Statements : StatementReply → Type 0
-Statements (Statement i) = i < noRecord
-Statements NoStatement = 0 < noRecord
-Statements (Unstated k d) = Numbers k d
-
-unfoldable pub Roots : RootReply → Type 0
-Roots (Root i) = i < half
-Roots (Unrooted k d) = Numbers k d
-
-pub verdict-apart : (v w : Verdict) → Verdicts v → Verdicts w → verdictReply v ≡ verdictReply w → v ≡ w
-unfolding Verdicts verdictReply
-verdict-apart Admitted Admitted p q e = refl
-verdict-apart Admitted (Refused k d) p q e = absurd (omega arith)
-verdict-apart (Refused k d) Admitted p q e = absurd (omega arith)
-verdict-apart (Refused k d) (Refused l f) p q e =
-    let s = halves k d l f (p .low) (q .low) e in
-    let s0 : k ≡ l = s .0 in
-    let s1 : d ≡ f = s .1 in cc
 
 pub list-apart : (v w : Listed) → Lists v → Lists w → listReply v ≡ listReply w → v ≡ w
 unfolding Lists listReply
@@ -75,20 +53,56 @@ list-apart (Denied k d) (Denied l f) p q e =
     let s0 : k ≡ l = s .0 in
     let s1 : d ≡ f = s .1 in cc
 
-pub hint-apart : (v w : HintReply) → Hints v → Hints w → hintReply v ≡ hintReply w → v ≡ w
-unfolding Hints hintReply hintRecord
-hint-apart (Hinted (Opener i)) (Hinted (Opener j)) p q e = let s : i ≡ j = omega arith in cc
-hint-apart (Hinted (Opener i)) (Hinted NoOpener) p q e = absurd (omega arith)
-hint-apart (Hinted NoOpener) (Hinted (Opener j)) p q e = absurd (omega arith)
-hint-apart (Hinted NoOpener) (Hinted NoOpener) p q e = refl
-hint-apart (Hinted (Opener i)) (Unhinted k d) p q e = absurd (omega arith)
-hint-apart (Hinted NoOpener) (Unhinted k d) p q e = absurd (omega arith)
-hint-apart (Unhinted k d) (Hinted (Opener j)) p q e = absurd (omega arith)
-hint-apart (Unhinted k d) (Hinted NoOpener) p q e = absurd (omega arith)
-hint-apart (Unhinted k d) (Unhinted l f) p q e =
-    let s = halves k d l f (p .low) (q .low) e in
-    let s0 : k ≡ l = s .0 in
-    let s1 : d ≡ f = s .1 in cc
+unfoldable pub rootAsList : RootReply → Listed
+rootAsList (Root i) = Entries i
+rootAsList (Unrooted k d) = Denied k d
+
+unfoldable listAsRoot : Listed → RootReply
+listAsRoot (Entries i) = Root i
+listAsRoot (Denied k d) = Unrooted k d
+
+root-back : (v : RootReply) → listAsRoot (rootAsList v) ≡ v
+unfolding rootAsList listAsRoot
+root-back (Root i) = refl
+root-back (Unrooted k d) = refl
+
+root-number : (v : RootReply) → rootNumber v ≡ listReply (rootAsList v)
+unfolding rootAsList rootNumber listReply
+root-number (Root i) = refl
+root-number (Unrooted k d) = refl
+
+pub root-apart : (v w : RootReply) → Lists (rootAsList v) → Lists (rootAsList w) → rootNumber v ≡ rootNumber w → v ≡ w
+root-apart v w p q e = through rootAsList listAsRoot root-back v w (list-apart (rootAsList v) (rootAsList w) p q (sym (root-number v) ∙ e ∙ root-number w))
+
+-- what is admitted is read as no entries
+unfoldable pub verdictAsList : Verdict → Listed
+verdictAsList Admitted = Entries 0
+verdictAsList (Refused k d) = Denied k d
+
+unfoldable listAsVerdict : Listed → Verdict
+listAsVerdict (Entries n) = Admitted
+listAsVerdict (Denied k d) = Refused k d
+
+verdict-back : (v : Verdict) → listAsVerdict (verdictAsList v) ≡ v
+unfolding verdictAsList listAsVerdict
+verdict-back Admitted = refl
+verdict-back (Refused k d) = refl
+
+verdict-number : (v : Verdict) → verdictReply v ≡ listReply (verdictAsList v)
+unfolding verdictAsList verdictReply listReply
+verdict-number Admitted = refl
+verdict-number (Refused k d) = refl
+
+pub verdict-apart : (v w : Verdict) → Lists (verdictAsList v) → Lists (verdictAsList w) → verdictReply v ≡ verdictReply w → v ≡ w
+verdict-apart v w p q e =
+    through verdictAsList listAsVerdict verdict-back v w (list-apart (verdictAsList v) (verdictAsList w) p q (sym (verdict-number v) ∙ e ∙ verdict-number w))
+
+-- ---- a record, none or a refusal: a statement; a hint is read as one
+
+unfoldable pub Statements : StatementReply → Type 0
+Statements (Statement i) = i < noRecord
+Statements NoStatement = 0 < noRecord
+Statements (Unstated k d) = Numbers k d
 
 pub statement-apart : (v w : StatementReply) → Statements v → Statements w → statementNumber v ≡ statementNumber w → v ≡ w
 unfolding Statements statementNumber
@@ -105,15 +119,31 @@ statement-apart (Unstated k d) (Unstated l f) p q e =
     let s0 : k ≡ l = s .0 in
     let s1 : d ≡ f = s .1 in cc
 
-pub root-apart : (v w : RootReply) → Roots v → Roots w → rootNumber v ≡ rootNumber w → v ≡ w
-unfolding Roots rootNumber
-root-apart (Root i) (Root j) p q e = let s : i ≡ j = omega arith in cc
-root-apart (Root i) (Unrooted k d) p q e = absurd (omega arith)
-root-apart (Unrooted k d) (Root j) p q e = absurd (omega arith)
-root-apart (Unrooted k d) (Unrooted l f) p q e =
-    let s = halves k d l f (p .low) (q .low) e in
-    let s0 : k ≡ l = s .0 in
-    let s1 : d ≡ f = s .1 in cc
+unfoldable pub hintAsStatement : HintReply → StatementReply
+hintAsStatement (Hinted (Opener i)) = Statement i
+hintAsStatement (Hinted NoOpener) = NoStatement
+hintAsStatement (Unhinted k d) = Unstated k d
+
+unfoldable statementAsHint : StatementReply → HintReply
+statementAsHint (Statement i) = Hinted (Opener i)
+statementAsHint NoStatement = Hinted NoOpener
+statementAsHint (Unstated k d) = Unhinted k d
+
+hint-back : (v : HintReply) → statementAsHint (hintAsStatement v) ≡ v
+unfolding hintAsStatement statementAsHint
+hint-back (Hinted (Opener i)) = refl
+hint-back (Hinted NoOpener) = refl
+hint-back (Unhinted k d) = refl
+
+hint-number : (v : HintReply) → hintReply v ≡ statementNumber (hintAsStatement v)
+unfolding hintAsStatement hintReply hintRecord statementNumber
+hint-number (Hinted (Opener i)) = refl
+hint-number (Hinted NoOpener) = refl
+hint-number (Unhinted k d) = refl
+
+pub hint-apart : (v w : HintReply) → Statements (hintAsStatement v) → Statements (hintAsStatement w) → hintReply v ≡ hintReply w → v ≡ w
+hint-apart v w p q e =
+    through hintAsStatement statementAsHint hint-back v w (statement-apart (hintAsStatement v) (hintAsStatement w) p q (sym (hint-number v) ∙ e ∙ hint-number w))
 
 -- ---- a refusal's number is not 0: no rule has that number
 

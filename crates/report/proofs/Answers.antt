@@ -8,12 +8,14 @@ use mathlib.Core.Path.{_≡_, refl, sym, ap, _∙_}
 use mathlib.Core.Bool.{Bool, true, false, cond}
 use mathlib.Core.List.{List, [], _∷_, _++_, map, reverse}
 use native.Mathlib.Omega.{arith}
+use native.Mathlib.Nat.{mul-le-mul-right}
 use lib.Dec.{ltb, eqb}
 use lib.ListN.{length, drop, length-append, length-map, length-reverse}
 use borrow.Author.Tests.{ltb-false, le-ltb}
 use Rattle.table.specs.declared.record.Rec.{Rec}
 use Rattle.table.specs.declared.check.Verdict.{Verdict}
 use Rattle.table.specs.declared.check.Verdict.the-variants.{Admitted, Refused}
+use Rattle.table.specs.declared.list.Listed.{Listed}
 use Rattle.table.specs.declared.list.Listed.the-variants.{Entries, Refused as Unlisted}
 use Rattle.table.specs.Table.{count, kindAt, recordAt, records, run, from}
 use Rattle.table.specs.Forest.{Forest, nil, token, node, kids}
@@ -34,7 +36,7 @@ use Rattle.brackets.specs.Brackets.{isOpener, isCloser, fits, closed, stackStep
 use Rattle.tables.specs.Tables.{referenceRow}
 use Rattle.scope.specs.Scope.{tableRefs}
 use Rattle.report.specs.Output.{printedList, referenceLines, answeredBy, answerText, refusalLine, referenceRoom, questionVerdict, unlessRefused, replied}
-use Rattle.report.specs.inner.Writing.{printedWords}
+use Rattle.report.specs.inner.Writing.{printedWords, entryCount}
 use Rattle.report.proofs.Writing.{printed-are}
 
 -- ---- the statement
@@ -124,6 +126,16 @@ module _ {E : Type 0} (row : E → List ℕ) (w : ℕ) (wide : (e : E) → lengt
         omega (arith, m, list-room row rs es out (g .0)),
         λ letter k. rw (b, g .1) (printed-are letter k w row wide es (drop (length (listBytes row es)) out)),
       )
+
+  -- where its table is admitted and it has room, it is not refused
+  pub list-fits : (rs : List Rule) (es : List E) (out : List ℕ) (m : ℕ) (r : Listed) {list : List ℕ} → Admitted ≡ first rs → length es ≤ m
+      → m * (numberBytes * w) ≤ length out → r ≡ listed rs row es out → list ≡ lent rs row es out
+      → (entryCount r ≤ m) × (entryCount r * (numberBytes * w) ≤ length list)
+      × ((letter k : ℕ) → printedWords letter k w list 0 (entryCount r) ≡ printedList letter k (map row es))
+  unfolding entryCount
+  list-fits rs es out m (Entries n) a f h e q = let g = list-read rs es out e q in (omega (arith, g .0), g .1, g .3)
+  list-fits rs es out m (Unlisted k d) a f h e q =
+      absurd (list-not-denied row rs es out a (omega (arith, list-size es, mul-le-mul-right (numberBytes * w) f)) e)
 
 -- ---- the verdict on a frame's table
 

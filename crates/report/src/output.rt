@@ -4,6 +4,7 @@ use cursor::context::ContextReply;
 use cursor::context::CursorContext;
 use cursor::context::code_of;
 use cursor::cursor_context::cursor_context;
+use lines::input::MOST_LINES;
 use scope::scope::table_refs;
 use scope::semantic_tokens::token_classes;
 use statement::statement::StatementReply;
@@ -13,6 +14,7 @@ use table::list::NUMBER_BYTES;
 use table::range::ABSENT;
 use table::record::WORD_LIMIT;
 use table::record::word_at;
+use tables::pending::REFERENCE_BYTES;
 ghost use mathlib.Core.Path.{_≡_};
 ghost use mathlib.Core.List.{[], _∷_};
 ghost use Prim.Native.Nat.{_+_, _*_, _/_, _≤_, _<_};
@@ -28,14 +30,29 @@ ghost use Rattle.statement.specs.Statement.{enclosingAt};
 ghost use Rattle.lines.specs.Lines.{mostLines};
 ghost use Rattle.report.specs.Output.{letterT, decimal, field, range, fields, ranges, printed};
 ghost use Rattle.report.specs.Output.{contextLine, statementLine, classLines, openerLines, refusalLine, answeredBy, replied};
-ghost use Rattle.report.specs.inner.Writing.{Put, words, printedWords, lineRoom, mostReferences, textRoom};
+ghost use Rattle.report.specs.inner.Writing.{Put, words, printedWords, entryCount, lineRoom, mostReferences, textRoom};
+
+// How many numbers the entry of a class has, and that of an opener; how many numbers and ranges that of a reference has.
+const CLASS_NUMBERS: usize = 3;
+
+const OPENER_NUMBERS: usize = 1;
+
+const REFERENCE_NUMBERS: usize = 1;
+
+const REFERENCE_RANGES: usize = 3;
 
 // How many bytes of room the lists have: the references as document 01 says, the others for an entry of each record.
 const REFERENCE_ROOM: usize = 16384;
 
-const CLASS_ROOM: usize = 12288;
+const CLASS_ROOM: usize = MOST_LINES * CLASS_NUMBERS * NUMBER_BYTES;
 
-const OPENER_ROOM: usize = 4096;
+const OPENER_ROOM: usize = MOST_LINES * OPENER_NUMBERS * NUMBER_BYTES;
+
+// How many references have room.
+pub const MOST_REFERENCES: usize = REFERENCE_ROOM / REFERENCE_BYTES;
+
+// No line is longer: a letter, seven numbers of ten digits with a space before each, LF.
+pub const LINE_ROOM: usize = 1 + 7 * 11 + 1;
 
 // Writes a byte and returns where the next goes.
 fn put_byte(out: &mut [u8], at: usize, b: u8) -> usize
@@ -215,16 +232,24 @@ fn put_statement(out: &mut [u8], at: usize, table: &[u8], source: &[u8], offset:
     }
 }
 
+// How many entries a reply tells of: none where it is a refusal.
+fn entry_count(reply: Listed) -> usize
+    ensures { λ r. ⌜ r ≡ entryCount reply ⌝ }
+{
+    match reply {
+        Listed::Entries(n) => n as usize,
+        Listed::Refused(_, _) => 0,
+    }
+}
+
 // The classes of an admitted table, a line each.
 fn put_classes(out: &mut [u8], at: usize, table: &[u8], source: &[u8]) -> usize
     requires { ⌜ (Admitted ≡ verdict (now table) (length (now source)) 0) × (count (now table) ≤ mostLines) × (at + lineRoom * mostLines ≤ length (now out)) ⌝ }
     ensures { λ r. ⌜ Put (classLines (now (source .entry)) (now (table .entry))) (now (out .entry)) at (now (out .exit)) r × (r ≤ at + lineRoom * mostLines) ⌝ }
 {
     let mut list = [0u8; CLASS_ROOM];
-    match token_classes(table, source, &mut list) {
-        Listed::Entries(n) => put_list(out, at, b'K', &list, n as usize, 3, 0),
-        Listed::Refused(_, _) => at,
-    }
+    let n = entry_count(token_classes(table, source, &mut list));
+    put_list(out, at, b'K', &list, n, CLASS_NUMBERS, 0)
 }
 
 // The openers left of an admitted table, a line each.
@@ -233,10 +258,8 @@ fn put_openers(out: &mut [u8], at: usize, table: &[u8], source: &[u8]) -> usize
     ensures { λ r. ⌜ Put (openerLines (now (table .entry))) (now (out .entry)) at (now (out .exit)) r × (r ≤ at + lineRoom * mostLines) ⌝ }
 {
     let mut list = [0u8; OPENER_ROOM];
-    match openers_left(table, source, &mut list) {
-        Listed::Entries(n) => put_list(out, at, b'O', &list, n as usize, 1, 0),
-        Listed::Refused(_, _) => at,
-    }
+    let n = entry_count(openers_left(table, source, &mut list));
+    put_list(out, at, b'O', &list, n, OPENER_NUMBERS, 0)
 }
 
 // Writes the line of a refusal.
@@ -266,7 +289,15 @@ fn put_answer(
 {
     let first = put_context(out, 0, table, source, offset);
     let second = put_statement(out, first, table, source, offset);
-    let third = put_list(out, second, b'T', refs, n, 1, 3);
+    let third = put_list(
+        out,
+        second,
+        b'T',
+        refs,
+        n,
+        REFERENCE_NUMBERS,
+        REFERENCE_RANGES,
+    );
     let fourth = put_classes(out, third, table, source);
     let fifth = put_openers(out, fourth, table, source);
     put_text(out, fifth, b"E\n")

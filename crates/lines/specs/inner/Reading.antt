@@ -21,7 +21,7 @@ use Rattle.lines.specs.Frame.{recordRow, sourceOf, offsetOf, tableOf}
 
 -- how many bytes of room a frame's table has
 abbrev pub tableRoom : ℕ
-tableRoom = 16384
+tableRoom = mostLines * recordBytes
 
 -- how many bytes stand before the first LF
 unfoldable pub lineSpan : List ℕ → ℕ

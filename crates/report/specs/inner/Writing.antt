@@ -1,13 +1,17 @@
 -- How a text is written, piece by piece. A reader of what glance prints needs none of it.
 -- Definitions only.
-use Prim.Native.Nat.{ℕ, zero, suc, _+_, _*_}
+use Prim.Native.Nat.{ℕ, zero, suc, _+_, _*_, _/_}
 use mathlib.Core.Path.{_≡_}
 use mathlib.Core.List.{List, [], _∷_, _++_}
 use lib.ListN.{length}
 use lib.Seq.{sets}
 use Rattle.table.specs.Table.{word}
 use Rattle.table.specs.Lists.{numberBytes}
-use Rattle.report.specs.Output.{printed}
+use Rattle.table.specs.declared.list.Listed.{Listed}
+use Rattle.table.specs.declared.list.Listed.the-variants.{Entries, Refused as Unlisted}
+use Rattle.tables.specs.Tables.{referenceBytes}
+use Rattle.lines.specs.Lines.{mostLines}
+use Rattle.report.specs.Output.{printed, referenceRoom}
 
 -- ---- writing
 
@@ -26,14 +30,19 @@ unfoldable pub printedWords : ℕ → ℕ → ℕ → List ℕ → ℕ → ℕ �
 printedWords letter n w l at zero = []
 printedWords letter n w l at (suc k) = printed letter n (words l at w) ++ printedWords letter n w l (at + numberBytes * w) k
 
+-- how many entries a reply tells of
+unfoldable pub entryCount : Listed → ℕ
+entryCount (Entries n) = n
+entryCount (Unlisted k d) = 0
+
 -- no line is longer: a letter, seven numbers of ten digits with a space before each, LF
 abbrev pub lineRoom : ℕ
-lineRoom = 79
+lineRoom = 1 + 7 * 11 + 1
 
 -- how many references have room, and how many bytes every text has room in: a line for the context, the statement and the end, and one
 -- for each reference, token and opener
 abbrev pub mostReferences : ℕ
-mostReferences = 585
+mostReferences = referenceRoom / referenceBytes
 
 abbrev pub textRoom : ℕ
-textRoom = 208244
+textRoom = lineRoom * (3 + mostReferences + 2 * mostLines)

@@ -1,8 +1,8 @@
 use Rattle.scope.specs.Classes.{classRow, classesOf}
 use Rattle.table.specs.Rules.{verdict}
-use Rattle.report.proofs.Answers.{list-size, list-read, list-not-denied, classes-few}
+use Rattle.report.proofs.Answers.{list-fits, classes-few}
 use lib.ListN.{length}
-use mathlib.Core.Path.{refl, sym, _∙_}
+use mathlib.Core.Path.{refl}
 use native.Mathlib.Omega.{arith}
 use borrow.Author.Needs.{needs}
 use Rattle.report.proofs.output.put_classes.Statement.{statement}
@@ -15,20 +15,20 @@ put-classes-spec =
     (tie.spec
     (λ c. search needs)  -- slice-aggregate-token-classes
     (λ c κs. search needs)  -- token-classes-requires
-    (λ c. search needs)  -- enum-known-n
+    (λ c κs. search needs)  -- entry-count-requires
     (λ c. search needs)  -- slice-aggregate-put-list
-    (λ c. search needs)  -- cast-put-list
     (λ c κs.
-    let q = list-read classRow 3 (λ e. refl) _ _ _ (sym (c .before .before .before .n .given .1) ∙ c .before .before .before .before .before .before .token-classes .ensures .0) (c .before .before .before .before .before .before .token-classes .ensures .1) in
-    let a = c .before .before .before .before .before .before .before .before .before .before .before in
-    (omega arith, q .1, omega (arith, q .0, classes-few (a .args .table .now) (length (a .args .source .now)) (a .pre .0) (a .args .source .now))))  -- put-list-requires
-    (λ c. search needs)  -- enum-told
+    let a = c .before .before .before .before .before .before .before .before .before in
+    let m = classes-few (a .args .table .now) (length (a .args .source .now)) (a .pre .0) (a .args .source .now) in
+    let w = c .before .before .before .before .token-classes .ensures in
+    let f = list-fits classRow 3 (λ e. refl) _ (classesOf (a .args .source .now) (a .args .table .now)) _ 1024 _ (a .pre .0) (omega (arith, m)) (omega arith) (w .0) (w .1) in
+    let k = c .before .before .entry-count .ensures in
+    (omega arith, rw k (f .1), omega (arith, k, f .0)))  -- put-list-requires
     (λ c. search needs)  -- same-length
     (λ c.
-    let q = list-read classRow 3 (λ e. refl) _ _ _ (sym (c .before .before .before .before .before .before .n .given .1) ∙ c .before .before .before .before .before .before .before .before .before .token-classes .ensures .0) (c .before .before .before .before .before .before .before .before .before .token-classes .ensures .1) in
-    let a = c .before .before .before .before .before .before .before .before .before .before .before .before .before .before in
-    (rw (← q .3 75 3) (c .before .before .put-list .ensures .0), omega (arith, q .0, classes-few (a .args .table .now) (length (a .args .source .now)) (a .pre .0) (a .args .source .now))))  -- returns
-    (λ c.
-    let a = c .before .before .before .before .before .before .before .before in
-    let l = list-size classRow 3 (λ e. refl) (classesOf (a .args .source .now) (a .args .table .now)) in
-    absurd (list-not-denied classRow _ _ _ (a .pre .0) (omega (arith, l, classes-few (a .args .table .now) (length (a .args .source .now)) (a .pre .0) (a .args .source .now))) (sym (c .enum-told .given .1) ∙ c .before .before .before .token-classes .ensures .0))))  -- returns-2
+    let a = c .before .before .before .before .before .before .before .before .before .before .before .before in
+    let m = classes-few (a .args .table .now) (length (a .args .source .now)) (a .pre .0) (a .args .source .now) in
+    let w = c .before .before .before .before .before .before .before .token-classes .ensures in
+    let f = list-fits classRow 3 (λ e. refl) _ (classesOf (a .args .source .now) (a .args .table .now)) _ 1024 _ (a .pre .0) (omega (arith, m)) (omega arith) (w .0) (w .1) in
+    let k = c .before .before .before .before .before .entry-count .ensures in
+    (rw (← f .2 75 3, ← k) (c .before .before .put-list .ensures .0), omega (arith, k, f .0))))  -- returns

@@ -1,8 +1,8 @@
 use Rattle.brackets.specs.Brackets.{openerRow, openersLeft}
 use Rattle.table.specs.Rules.{verdict}
-use Rattle.report.proofs.Answers.{list-size, list-read, list-not-denied, openers-few}
+use Rattle.report.proofs.Answers.{list-fits, openers-few}
 use lib.ListN.{length}
-use mathlib.Core.Path.{refl, sym, _∙_}
+use mathlib.Core.Path.{refl}
 use native.Mathlib.Omega.{arith}
 use borrow.Author.Needs.{needs}
 use Rattle.report.proofs.output.put_openers.Statement.{statement}
@@ -15,20 +15,20 @@ put-openers-spec =
     (tie.spec
     (λ c. search needs)  -- slice-aggregate-openers-left
     (λ c κs. search needs)  -- openers-left-requires
-    (λ c. search needs)  -- enum-known-n
+    (λ c κs. search needs)  -- entry-count-requires
     (λ c. search needs)  -- slice-aggregate-put-list
-    (λ c. search needs)  -- cast-put-list
     (λ c κs.
-    let q = list-read openerRow 1 (λ e. refl) _ _ _ (sym (c .before .before .before .n .given .1) ∙ c .before .before .before .before .before .before .openers-left .ensures .0) (c .before .before .before .before .before .before .openers-left .ensures .1) in
-    let a = c .before .before .before .before .before .before .before .before .before .before .before in
-    (omega arith, q .1, omega (arith, q .0, openers-few (a .args .table .now) (length (a .args .source .now)) (a .pre .0))))  -- put-list-requires
-    (λ c. search needs)  -- enum-told
+    let a = c .before .before .before .before .before .before .before .before .before in
+    let m = openers-few (a .args .table .now) (length (a .args .source .now)) (a .pre .0) in
+    let w = c .before .before .before .before .openers-left .ensures in
+    let f = list-fits openerRow 1 (λ e. refl) _ (openersLeft (a .args .table .now)) _ 1024 _ (a .pre .0) (omega (arith, m)) (omega arith) (w .0) (w .1) in
+    let k = c .before .before .entry-count .ensures in
+    (omega arith, rw k (f .1), omega (arith, k, f .0)))  -- put-list-requires
     (λ c. search needs)  -- same-length
     (λ c.
-    let q = list-read openerRow 1 (λ e. refl) _ _ _ (sym (c .before .before .before .before .before .before .n .given .1) ∙ c .before .before .before .before .before .before .before .before .before .openers-left .ensures .0) (c .before .before .before .before .before .before .before .before .before .openers-left .ensures .1) in
-    let a = c .before .before .before .before .before .before .before .before .before .before .before .before .before .before in
-    (rw (← q .3 79 1) (c .before .before .put-list .ensures .0), omega (arith, q .0, openers-few (a .args .table .now) (length (a .args .source .now)) (a .pre .0))))  -- returns
-    (λ c.
-    let a = c .before .before .before .before .before .before .before .before in
-    let l = list-size openerRow 1 (λ e. refl) (openersLeft (a .args .table .now)) in
-    absurd (list-not-denied openerRow _ _ _ (a .pre .0) (omega (arith, l, openers-few (a .args .table .now) (length (a .args .source .now)) (a .pre .0))) (sym (c .enum-told .given .1) ∙ c .before .before .before .openers-left .ensures .0))))  -- returns-2
+    let a = c .before .before .before .before .before .before .before .before .before .before .before .before in
+    let m = openers-few (a .args .table .now) (length (a .args .source .now)) (a .pre .0) in
+    let w = c .before .before .before .before .before .before .before .openers-left .ensures in
+    let f = list-fits openerRow 1 (λ e. refl) _ (openersLeft (a .args .table .now)) _ 1024 _ (a .pre .0) (omega (arith, m)) (omega arith) (w .0) (w .1) in
+    let k = c .before .before .before .before .before .entry-count .ensures in
+    (rw (← f .2 79 1, ← k) (c .before .before .put-list .ensures .0), omega (arith, k, f .0))))  -- returns
