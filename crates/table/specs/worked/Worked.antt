@@ -37,8 +37,7 @@ on t n v = record { table = t; source = n; message = 0; says = v }
 
 cases : List Case
 cases =
-    -- depth 63 passes, 64 below a 63 is 5, depth 3 below 1 is 4
-    on (chain 0 64) 0 Admitted ∷
+    -- depth 63 passes and 64 below it is 5, depth 3 below 1 is 4 (a table of depth 63 that is admitted: frame's Worked)
     on (chain 0 65) 0 (Refused 5 64) ∷
     on (rec file 0 0 0 ++ rec 0 1 0 0 ++ rec 0 3 0 0) 0 (Refused 4 2) ∷
     -- a token that ends at the source's length passes, one more is 6

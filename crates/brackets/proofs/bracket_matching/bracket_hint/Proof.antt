@@ -1,7 +1,7 @@
 use Rattle.brackets.proofs.BracketLaws.{hinted-refused, hinted-admitted}
 use Rattle.table.proofs.Sense.{admitted-tidy}
 use lib.ListN.{length}
-use native.Mathlib.Omega.{arith}
+use mathlib.Core.Path.{sym, _∙_}
 use borrow.Author.Needs.{needs}
 use Rattle.brackets.proofs.bracket_matching.bracket_hint.Statement.{statement}
 use Rattle.brackets.proofs.bracket_matching.bracket_hint.Tie as tie
@@ -13,6 +13,6 @@ bracket-hint-spec =
     (λ c κs. search needs)  -- check-message-requires
     (λ c. search needs)  -- enum-known-k
     (λ c. search needs)  -- enum-told
-    (λ c κs. let a = c .before .before .before .before .before .before .args in let w = admitted-tidy (a .table .now) (length (a .source .now)) (length (a .message .now)) (cc) in (w .some, w .few))  -- find-hint-requires
-    (λ c. hinted-refused _ (cc))  -- returns
-    (λ c. hinted-admitted (cc) (c .find-hint .ensures)))  -- returns-2
+    (λ c κs. let a = c .before .before .before .before .before .before .args in let w = admitted-tidy (a .table .now) (length (a .source .now)) (length (a .message .now)) (sym (c .before .before .check-message .ensures) ∙ c .enum-told .given .1) in (w .some, w .few))  -- find-hint-requires
+    (λ c. hinted-refused _ (sym (c .before .k .given .1) ∙ c .before .before .before .check-message .ensures))  -- returns
+    (λ c. hinted-admitted (sym (c .before .enum-told .given .1) ∙ c .before .before .before .check-message .ensures) (c .find-hint .ensures)))  -- returns-2

@@ -3,7 +3,7 @@ use Rattle.table.proofs.Sense.{admitted-tidy}
 use Rattle.table.proofs.Writes.{list-refused, list-admitted}
 use Rattle.table.specs.Rules.{verdict}
 use lib.ListN.{length}
-use native.Mathlib.Omega.{arith}
+use mathlib.Core.Path.{sym, _∙_}
 use borrow.Author.Needs.{needs}
 use Rattle.brackets.proofs.bracket_matching.openers_left.Statement.{statement}
 use Rattle.brackets.proofs.bracket_matching.openers_left.Tie as tie
@@ -16,7 +16,7 @@ openers-left-spec =
     (λ c κs. search needs)  -- check-requires
     (λ c. search needs)  -- enum-known-k
     (λ c. search needs)  -- enum-told
-    (λ c κs. let a = c .before .before .before .before .before .before .before .args in let w = admitted-tidy (a .table .now) (length (a .source .now)) 0 (cc) in (w .some, w .few))  -- list-openers-requires
-    (λ c. list-refused openerRow _ _ _ (cc))  -- returns
+    (λ c κs. let a = c .before .before .before .before .before .before .before .args in let w = admitted-tidy (a .table .now) (length (a .source .now)) 0 (sym (c .before .before .before .check .ensures) ∙ c .before .enum-told .given .1) in (w .some, w .few))  -- list-openers-requires
+    (λ c. list-refused openerRow _ _ _ (sym (c .before .k .given .1) ∙ c .before .before .before .check .ensures))  -- returns
     (λ c. search needs)  -- same-length
-    (λ c. list-admitted openerRow _ _ _ (cc) (c .before .before .list-openers .ensures)))  -- returns-2
+    (λ c. list-admitted openerRow _ _ _ (sym (c .before .before .before .before .enum-told .given .1) ∙ c .before .before .before .before .before .before .check .ensures) (c .before .before .list-openers .ensures)))  -- returns-2

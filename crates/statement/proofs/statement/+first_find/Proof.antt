@@ -1,3 +1,4 @@
+use mathlib.Core.Path.{sym, _∙_}
 use Prim.Native.Nat.{ℕ, _-_, _<_, _≤_}
 use native.Mathlib.Omega.{arith}
 use borrow.Author.Needs.{needs}
@@ -67,14 +68,14 @@ pub +first-find-spec : {M : Type 1} → statement M
     (λ c. omega arith)  -- add-else-itself
     (λ c κs. omega arith)  -- else-itself-requires
     (λ c. omega arith)  -- enum-known-n
-    (λ c. seeking-here (c .before .before .before .before .before .before .before .before .before .before .loop .inv .1) (omega arith) (cc) (c .before .before .before .before .before .before .rest-from .ensures .0) (c .before .before .before .before .before .first-find .ensures) (rw (c .before .before .before .before .kind-at .ensures .0) at (c .before .before .before .else-itself .ensures)) (c .before .n .given .1))  -- returns-2
+    (λ c. seeking-here (c .before .before .before .before .before .before .before .before .before .before .loop .inv .1) (omega arith) (sym (c .before .before .before .before .before .before .before .before .is-holder .ensures) ∙ c .before .before .before .before .before .before .before .if2 .taken) (c .before .before .before .before .before .before .rest-from .ensures .0) (c .before .before .before .before .before .first-find .ensures) (rw (c .before .before .before .before .kind-at .ensures .0) at (c .before .before .before .else-itself .ensures)) (c .before .n .given .1))  -- returns-2
     (λ c. search needs)  -- enum-told
     (λ c. omega arith)  -- add-child-from
     (λ c κs. omega arith)  -- child-from-requires-2
     (λ c. omega arith)  -- loop-less
-    (λ c. (omega arith, seeking-past (c .before .before .before .before .before .before .before .before .before .before .loop .inv .1) (omega arith) (cc) (c .before .before .before .before .before .before .rest-from .ensures .0) (c .before .before .before .before .before .first-find .ensures) (rw (c .before .before .before .before .kind-at .ensures .0) at (c .before .before .before .else-itself .ensures)) (cc) (c .child-from2 .ensures)))  -- loop-again
+    (λ c. (omega arith, seeking-past (c .before .before .before .before .before .before .before .before .before .before .loop .inv .1) (omega arith) (sym (c .before .before .before .before .before .before .before .before .is-holder .ensures) ∙ c .before .before .before .before .before .before .before .if2 .taken) (c .before .before .before .before .before .before .rest-from .ensures .0) (c .before .before .before .before .before .first-find .ensures) (rw (c .before .before .before .before .kind-at .ensures .0) at (c .before .before .before .else-itself .ensures)) (c .before .enum-told .given .1) (c .child-from2 .ensures)))  -- loop-again
     (λ c. omega arith)  -- add-child-from-2
     (λ c κs. omega arith)  -- child-from-requires-3
     (λ c. omega arith)  -- loop-less-2
-    (λ c. (omega arith, seeking-on (c .before .before .before .before .loop .inv .1) (omega arith) (cc) (c .child-from3 .ensures)))  -- loop-again-2
+    (λ c. (omega arith, seeking-on (c .before .before .before .before .loop .inv .1) (omega arith) (sym (c .before .before .is-holder .ensures) ∙ c .before .if2 .left) (c .child-from3 .ensures)))  -- loop-again-2
     (λ c. seeking-end (c .before .loop .inv .1) (omega arith))  -- returns-3

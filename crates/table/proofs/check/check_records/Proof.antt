@@ -1,3 +1,4 @@
+use mathlib.Core.Path.{sym, _∙_}
 use Prim.Native.Nat.{_-_, _≤_}
 use Rattle.table.specs.Table.{count}
 use Rattle.table.specs.Rules.{mostRecords, first, rulesFrom}
@@ -23,9 +24,9 @@ check-records-spec =
     (λ c κs. omega arith)  -- step-requires
     (λ c. omega arith)  -- enum-known-k
     (λ c. omega arith)  -- cast-t12
-    (λ c. checking-broken (c .before .before .before .before .before .before .loop .inv .1) (omega arith) (cc))  -- returns
+    (λ c. checking-broken (c .before .before .before .before .before .before .loop .inv .1) (omega arith) (sym (c .before .k .given .1) ∙ rw (c .before .before .before .before .record-at .ensures) at (c .before .before .before .step .ensures)))  -- returns
     (λ c. omega arith)  -- enum-known-next
     (λ c. omega arith)  -- add-i
     (λ c. omega arith)  -- loop-less
-    (λ c. (omega arith, checking-next (c .before .before .before .before .before .before .loop .inv .1) (omega arith) (cc)))  -- loop-again
+    (λ c. (omega arith, checking-next (c .before .before .before .before .before .before .loop .inv .1) (omega arith) (sym (c .before .next .given .1) ∙ rw (c .before .before .before .before .record-at .ensures) at (c .before .before .before .step .ensures))))  -- loop-again
     (λ c. checking-end (c .before .loop .inv .1) (omega arith)))  -- returns-2

@@ -1,3 +1,4 @@
+use mathlib.Core.Path.{sym, _∙_}
 use borrow.Author.Needs.{needs}
 use Rattle.table.proofs.Checks.{root-refused, root-none, root-admitted}
 use Rattle.table.proofs.check.check_root.Statement.{statement}
@@ -11,6 +12,6 @@ check-root-spec =
     (λ c. search needs)  -- enum-known-k
     (λ c. search needs)  -- enum-told
     (λ c κs. search needs)  -- no-root-requires
-    (λ c. root-refused _ _ _ (cc))  -- returns
-    (λ c. root-none _ _ _ (cc) (cc))  -- returns-2
-    (λ c. root-admitted _ _ _ (cc) (cc)))  -- returns-3
+    (λ c. root-refused _ _ _ (sym (c .before .k .given .1) ∙ c .before .before .before .check .ensures))  -- returns
+    (λ c. root-none _ _ _ (sym (c .before .before .enum-told .given .1) ∙ c .before .before .before .before .check .ensures) (sym (c .before .no-root .ensures) ∙ c .if1 .taken))  -- returns-2
+    (λ c. root-admitted _ _ _ (sym (c .before .before .enum-told .given .1) ∙ c .before .before .before .before .check .ensures) (sym (c .before .no-root .ensures) ∙ c .if1 .left)))  -- returns-3

@@ -13,4 +13,4 @@ record-at-spec =
     (λ c κs. search needs)  -- depth-at-requires
     (λ c κs. search needs)  -- start-at-requires
     (λ c κs. search needs)  -- end-at-requires
-    (λ c. cc))  -- returns
+    (λ c. rw (c .before .before .before .kind-at .ensures .0, c .before .before .depth-at .ensures .0, c .before .start-at .ensures .0, c .end-at .ensures .0)))  -- returns
