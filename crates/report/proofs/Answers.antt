@@ -33,10 +33,10 @@ use Rattle.statement.specs.Statement.{told, statementReply}
 use Rattle.scope.specs.Classes.{numberOf, entryOf, classOf, classes, classesOf}
 use Rattle.scope.specs.declared.semantic_tokens.TokenClass.the-variants.{Unclassed}
 use Rattle.brackets.specs.Brackets.{isOpener, isCloser, fits, closed, stackStep, left, stackLeft, indexOf, openersLeft}
-use Rattle.tables.specs.Tables.{referenceRow}
+use Rattle.tables.specs.Tables.{referenceBytes, referenceRow}
 use Rattle.scope.specs.Scope.{tableRefs}
-use Rattle.report.specs.Output.{printedList, referenceLines, answeredBy, answerText, refusalLine, referenceRoom, questionVerdict, unlessRefused, replied}
-use Rattle.report.specs.inner.Writing.{printedWords, entryCount}
+use Rattle.report.specs.Output.{letterT, printedList, answeredBy, answerText, refusalLine, referenceRoom, questionVerdict, unlessRefused, replied}
+use Rattle.report.specs.inner.Writing.{printedWords, entryCount, mostReferences}
 use Rattle.report.proofs.Writing.{printed-are}
 
 -- ---- the statement
@@ -144,21 +144,25 @@ module _ (src t out : List ℕ) (z : length out ≡ referenceRoom) where
   unfolding questionVerdict
   same-verdict = rw z
 
-  pub question-refused : (o : ℕ) {k d : ℕ} → Unlisted k d ≡ listed (rootRules t (length src) 0) referenceRow (tableRefs src t 0) out → replied src t o ≡ refusalLine k d
-  unfolding unlessRefused
-  question-refused o e = rw (← (list-denied referenceRow (rootRules t (length src) 0) (tableRefs src t 0) out e ∙ same-verdict))
+  module _ {r : Listed} (w : r ≡ listed (rootRules t (length src) 0) referenceRow (tableRefs src t 0) out) where
+    pub question-refused : {k d : ℕ} → r ≡ Unlisted k d → (o : ℕ) → replied src t o ≡ refusalLine k d
+    unfolding unlessRefused
+    question-refused q o = rw (← (list-denied referenceRow (rootRules t (length src) 0) (tableRefs src t 0) out (sym q ∙ w) ∙ same-verdict))
 
-  module _ {n : ℕ} (e : Entries n ≡ listed (rootRules t (length src) 0) referenceRow (tableRefs src t 0) out) where
-    admitted : Admitted ≡ listVerdict (rootRules t (length src) 0) referenceRow (tableRefs src t 0) out
-    admitted = list-given referenceRow (rootRules t (length src) 0) (tableRefs src t 0) out e .0
-
-    pub question-admitted : Admitted ≡ verdict t (length src) 0
-    unfolding verdict
-    question-admitted = admitted-first (rules t (length src) 0) _ (admitted-first (rootRules t (length src) 0) _ admitted)
-
-    pub question-answered : (o : ℕ) {lines : List ℕ} → lines ≡ referenceLines src t → replied src t o ≡ answeredBy src t o lines
-    unfolding unlessRefused answerText
-    question-answered o q = rw (← (admitted ∙ same-verdict), q)
+    -- the references are read back from their buffer, and are the answer's
+    pub question-read : {n : ℕ} {list : List ℕ} → r ≡ Entries n → list ≡ lent (rootRules t (length src) 0) referenceRow (tableRefs src t 0) out
+        → (Admitted ≡ verdict t (length src) 0) × (n * referenceBytes ≤ length list) × (n ≤ mostReferences)
+        × ((o : ℕ) → replied src t o ≡ answeredBy src t o (printedWords letterT 1 7 list 0 n))
+    unfolding verdict unlessRefused answerText
+    question-read {n} {list} q b =
+        let a : Admitted ≡ listVerdict (rootRules t (length src) 0) referenceRow (tableRefs src t 0) out
+        = list-given referenceRow (rootRules t (length src) 0) (tableRefs src t 0) out (sym q ∙ w) .0 in
+        let g = list-read referenceRow 7 (λ e. refl) (rootRules t (length src) 0) (tableRefs src t 0) out (sym q ∙ w) b in (
+          admitted-first (rules t (length src) 0) _ (admitted-first (rootRules t (length src) 0) _ a),
+          g .1,
+          omega (arith, g .2, z),
+          λ o. rw (← (a ∙ same-verdict), g .3 letterT 1),
+        )
 
 -- ---- how many entries
 

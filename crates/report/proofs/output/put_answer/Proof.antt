@@ -1,5 +1,5 @@
 use Rattle.table.specs.Text.{bytesOf}
-use Rattle.report.proofs.Writing.{put-then}
+use Rattle.report.proofs.Writing.{put-then, answer-room}
 use native.Mathlib.Omega.{arith}
 use borrow.Author.Needs.{needs}
 use Rattle.report.proofs.output.put_answer.Statement.{statement}
@@ -16,6 +16,12 @@ put-answer-spec =
     (λ c κs. search needs)  -- put-classes-requires
     (λ c κs. search needs)  -- put-openers-requires
     (λ c. search needs)  -- slice-aggregate-put-text
-    (λ c κs. omega (arith, c .before .before .before .before .before .before .before .before .before .before .before .before .before, c .before .before .before .before .before .before .before .before .before .before .before .before .before .before .before .before .before, c .before .before .before .before .before .before .before .before .before .before .before .before .before .before .before .before .before .before .before .before .before))  -- put-text-requires
+    (λ c κs.
+    let a = c .before .before .before .before .before .before .before .before .before .before .before .before .before .before .before .before .before .before .before .before .before .before .before .before .before .before in
+    let h = answer-room (a .args .n) (a .pre .3) (c .before .before .before .before .before .before .before .before .before .before .before .before .before .before .before .before .before .before .before .before .put-context .ensures .1) (c .before .before .before .before .before .before .before .before .before .before .before .before .before .before .before .before .put-statement .ensures .1) (c .before .before .before .before .before .before .before .before .before .before .before .before .put-list .ensures .1) (c .before .before .before .before .before .before .before .before .put-classes .ensures .1) (c .before .before .before .before .put-openers .ensures .1) in
+    omega (arith, h, a))  -- put-text-requires
     (λ c. search needs)  -- same-length
-    (λ c. (put-then (put-then (put-then (put-then (put-then (c .before .before .before .before .before .before .before .before .before .before .before .before .before .before .before .before .before .before .before .before .before .before .before .put-context .ensures .0) (c .before .before .before .before .before .before .before .before .before .before .before .before .before .before .before .before .before .before .before .put-statement .ensures .0)) (c .before .before .before .before .before .before .before .before .before .before .before .before .before .before .before .put-list .ensures .0)) (c .before .before .before .before .before .before .before .before .before .before .before .put-classes .ensures .0)) (c .before .before .before .before .before .before .before .put-openers .ensures .0)) (c .before .before .put-text .ensures), omega (arith, c .before .before .before .before .before .before .before .before .before .before .before .before .before .before .before, c .before .before .before .before .before .before .before .before .before .before .before .before .before .before .before .before .before .before .before, c .before .before .before .before .before .before .before .before .before .before .before .before .before .before .before .before .before .before .before .before .before .before .before))))  -- returns
+    (λ c.
+    let a = c .before .before .before .before .before .before .before .before .before .before .before .before .before .before .before .before .before .before .before .before .before .before .before .before .before .before .before .before .before in
+    let h = answer-room (a .args .n) (a .pre .3) (c .before .before .before .before .before .before .before .before .before .before .before .before .before .before .before .before .before .before .before .before .before .before .before .put-context .ensures .1) (c .before .before .before .before .before .before .before .before .before .before .before .before .before .before .before .before .before .before .before .put-statement .ensures .1) (c .before .before .before .before .before .before .before .before .before .before .before .before .before .before .before .put-list .ensures .1) (c .before .before .before .before .before .before .before .before .before .before .before .put-classes .ensures .1) (c .before .before .before .before .before .before .before .put-openers .ensures .1) in
+    (put-then (put-then (put-then (put-then (put-then (c .before .before .before .before .before .before .before .before .before .before .before .before .before .before .before .before .before .before .before .before .before .before .before .put-context .ensures .0) (c .before .before .before .before .before .before .before .before .before .before .before .before .before .before .before .before .before .before .before .put-statement .ensures .0)) (c .before .before .before .before .before .before .before .before .before .before .before .before .before .before .before .put-list .ensures .0)) (c .before .before .before .before .before .before .before .before .before .before .before .put-classes .ensures .0)) (c .before .before .before .before .before .before .before .put-openers .ensures .0)) (c .before .before .put-text .ensures), rw (c .before .before .put-text .ensures .next) h)))  -- returns
