@@ -1,6 +1,6 @@
 -- The scope at the cursor: its root is a node of the table, so refusal 8 is never given there.
 --     root-node                           the root is a node of the table
---     root-within                         so it stands in the table
+--     root-within, root-shallow           so it stands in the table, and not too deep
 -- Assumes nothing.
 use Prim.Native.Nat.{ℕ, zero, suc, _+_, _-_, _≤_, _<_}
 use mathlib.Core.Path.{_≡_, refl, sym, _∙_}
@@ -18,7 +18,7 @@ use Rattle.table.specs.Kinds.{lastNode}
 use Rattle.table.specs.Table.{count, kindAt, depthAt, recordAt, run, from, records}
 use Rattle.table.specs.Forest.{Forest, nil, token, node, level, kids}
 use Rattle.table.specs.Descent.{path, pathOf}
-use Rattle.table.specs.Rules.{mostRecords, noRoot, verdict}
+use Rattle.table.specs.Rules.{mostRecords, mostDepth, noRoot, verdict}
 use Rattle.table.specs.Sense.{treeOf}
 use Rattle.table.proofs.Laws.{lt-or-le, node-or-token, level-shallow, level-deep, level-token, level-node, from-cons}
 use Rattle.table.proofs.Checks.{root-known, root-admitted}
@@ -156,3 +156,10 @@ pub root-within : (t : List ℕ) (n o : ℕ) {v : Verdict} {i : ℕ} → v ≡ v
 root-within t n o e a q =
     let k = root-known t n (rootAt t o) (root-admitted t n (rootAt t o) (sym a ∙ e) (root-node t n (sym e ∙ a) o)) in
     rw q (k .1, k .0)
+
+-- and no deeper than a record may be
+pub root-shallow : (t : List ℕ) (n o : ℕ) {v : Verdict} {i : ℕ} → v ≡ verdict t n 0 → v ≡ Admitted → i ≡ rootAt t o
+    → (i < count t) × (count t ≤ mostRecords) × (depthAt t i ≤ mostDepth)
+root-shallow t n o {v} {i} e a q =
+    let w = root-within t n o e a q in
+    (w .0, w .1, admitted-tidy t n 0 (sym e ∙ a) .depths i (w .0))

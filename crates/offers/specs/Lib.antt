@@ -1,2 +1,5 @@
+pub mod Enclosing
 pub mod Root
+pub mod WithNames
+pub mod inner
 pub mod worked

@@ -1,18 +1,17 @@
-// The scope at the cursor: the four lists of its root.
+// The scope at the cursor: the aliases, columns and references of its root. The WITH names stand in with_names.
 use crate::root::root_at;
 use scope::collection::Asked;
 use scope::scope::list_in;
 use table::check::Verdict;
 use table::check::check;
 use table::list::Listed;
-ghost use mathlib.Core.Path.{_≡_};
 ghost use lib.ListN.{length};
 ghost use Rattle.table.specs.Rules.{rules};
 ghost use Rattle.table.specs.Lists.{Answers};
 ghost use Rattle.names.specs.Bindings.{bindingRow};
 ghost use Rattle.tables.specs.Tables.{referenceRow};
 ghost use Rattle.tables.specs.inner.Rows.{asRow};
-ghost use Rattle.scope.specs.Scope.{withNames, tableAliases, columnAliases, tableRefs};
+ghost use Rattle.scope.specs.Scope.{tableAliases, columnAliases, tableRefs};
 ghost use Rattle.scope.specs.inner.Rows.{rowsAt};
 ghost use Rattle.offers.specs.Root.{rootAt};
 
@@ -28,14 +27,6 @@ fn offer(asked: Asked, table: &[u8], source: &[u8], offset: usize, out: &mut [u8
             list_in(asked, table, source, root, out)
         }
     }
-}
-
-// The WITH names that are offered at the offset: those of the cursor's root alone.
-pub fn with_names_at(table: &[u8], source: &[u8], offset: usize, out: &mut [u8]) -> Listed
-    ensures { λ r. ⌜ Answers (rules (now (table .entry)) (length (now (source .entry))) 0) bindingRow
-        (withNames (now (source .entry)) (now (table .entry)) (rootAt (now (table .entry)) offset)) (now (out .entry)) r (now (out .exit)) ⌝ }
-{
-    offer(Asked::WithNames, table, source, offset, out)
 }
 
 // The table aliases that are offered at the offset: those of the cursor's root alone.

@@ -85,7 +85,7 @@ fn own_part(asked: Asked, s: &[u8], base: usize, source: &[u8], out: &mut [u8], 
 }
 
 // Is a child of kind k a node that collection visits?
-fn visits(k: usize) -> bool
+pub fn visits(k: usize) -> bool
     ensures { λ r. ⌜ r ≡ (isNode k && not (eqb k subqueryExpression)) ⌝ }
 {
     is_node(k) & (k != SUBQUERY_EXPRESSION)

@@ -18,7 +18,7 @@ ghost use Rattle.table.specs.Table.{count, records, wordLimit};
 ghost use Rattle.table.specs.Forest.{kids};
 ghost use Rattle.table.specs.Rules.{verdict};
 ghost use Rattle.table.specs.Ranges.{spans};
-ghost use Rattle.statement.specs.Statement.{itself, orElse, firstFind, enclosingAt, told, statementReply};
+ghost use Rattle.statement.specs.Statement.{isStatement, itself, orElse, firstFind, enclosingAt, told, statementReply};
 
 // The record that a search finds.
 pub enum Enclosing {
@@ -34,6 +34,13 @@ pub enum StatementReply {
     Refused(u32, u32),
 }
 
+// Is a node of this kind a statement?
+pub fn is_statement(kind: usize) -> bool
+    ensures { λ r. ⌜ r ≡ isStatement kind ⌝ }
+{
+    (SELECT_STATEMENT <= kind) & (kind <= DESCRIBE_STATEMENT)
+}
+
 // What is found below a node, else the node itself if it is a statement.
 fn else_itself(inner: Enclosing, kind: usize, i: usize) -> Enclosing
     requires { ⌜ i < wordLimit ⌝ }
@@ -42,7 +49,7 @@ fn else_itself(inner: Enclosing, kind: usize, i: usize) -> Enclosing
     match inner {
         Enclosing::Record(n) => Enclosing::Record(n),
         Enclosing::Outside => {
-            if (SELECT_STATEMENT <= kind) & (kind <= DESCRIBE_STATEMENT) {
+            if is_statement(kind) {
                 Enclosing::Record(i as u32)
             } else {
                 Enclosing::Outside

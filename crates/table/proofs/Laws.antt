@@ -219,7 +219,7 @@ module _ (t : List ℕ) (base i : ℕ) where
   unfolding word
   word-tail x y q = rw (← q) (simp (getD-drop, add-assoc))
 
-  record-tail : (m : ℕ) → recordAt (drop (recordBytes * i) t) (base + i) m ≡ recordAt t base (i + m)
+  pub record-tail : (m : ℕ) → recordAt (drop (recordBytes * i) t) (base + i) m ≡ recordAt t base (i + m)
   unfolding recordAt
   record-tail m =
       let n : base + i + m ≡ base + (i + m) = omega arith in

@@ -9,7 +9,7 @@
 --     sized-filled, sized-short     all entries are written; they are counted, and have no room
 --     sized-written, sized-denied   the same where they are counted on an empty part of the buffer itself
 --     list-filled, list-short       the same where every entry that there can be is of one width
---     written-map, listed-map, ..   entries that are rows of numbers already
+--     written-map, written-rows, listed-map, ..   entries that are rows of numbers already
 -- Assumes nothing.
 use mathlib.Core.Path.{_≡_, refl, sym, ap, _∙_}
 use mathlib.Core.Bool.{cond}
@@ -208,6 +208,9 @@ module _ {E : Type 0} (row : E → List ℕ) where
 
   pub written-map : (es : List E) {out out′ : List ℕ} {at at′ : ℕ} → Written row es out at out′ at′ → Written plain (map row es) out at out′ at′
   written-map es {out} {out′} {at} w = record { bytes = w .bytes ∙ sym (fill-map out at es); next = rw (bytes-map es) (w .next) }
+
+  pub written-rows : (es : List E) {out out′ : List ℕ} {at at′ : ℕ} → Written plain (map row es) out at out′ at′ → Written row es out at out′ at′
+  written-rows es {out} {out′} {at} w = record { bytes = w .bytes ∙ fill-map out at es; next = rw (bytes-map es) at (w .next) }
 
   verdict-map : (rs : List Rule) (es : List E) (out : List ℕ) → listVerdict rs plain (map row es) out ≡ listVerdict rs row es out
   verdict-map rs es out = rw (bytes-map es, length-map es row)

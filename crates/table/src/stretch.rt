@@ -2,13 +2,14 @@
 use crate::record::RECORD_BYTES;
 use crate::record::depth_at;
 ghost use mathlib.Core.Path.{_≡_};
+ghost use mathlib.Core.Bool.{cond};
 ghost use Prim.Native.Nat.{_+_, _-_, _*_, _≤_, _<_};
 ghost use lib.ListN.{length, drop};
-ghost use Rattle.table.specs.Table.{recordBytes, count, part};
+ghost use Rattle.table.specs.Table.{recordBytes, wordLimit, count, part};
 ghost use Rattle.table.specs.Forest.{stretchEnd, Child, Reached};
 
 // The first record after i that is not deeper than i, or the count of records.
-fn stretch_end(t: &[u8], i: usize) -> usize
+pub fn stretch_end(t: &[u8], i: usize) -> usize
     requires { ⌜ i < count (now t) ⌝ }
     ensures { λ r. ⌜ (r ≡ stretchEnd (now (t .entry)) i) × (i < r) × (r ≤ count (now (t .entry))) ⌝ }
 {
@@ -81,4 +82,12 @@ pub fn level_from(t: &[u8], k: usize, j: usize) -> usize
         i += 1;
     }
     i
+}
+
+// How deep the record after one of depth d may be, in a flat reading: one below it where it is gone into, else no deeper than it.
+pub fn reach_below(d: usize, into: bool) -> usize
+    requires { ⌜ d < wordLimit ⌝ }
+    ensures { λ r. ⌜ r ≡ cond into (d + 1) d ⌝ }
+{
+    if into { d + 1 } else { d }
 }

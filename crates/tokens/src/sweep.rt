@@ -15,10 +15,11 @@ use table::record::depth_at;
 use table::record::end_at;
 use table::record::kind_at;
 use table::record::start_at;
+use table::stretch::reach_below;
 ghost use mathlib.Core.Path.{_≡_};
 ghost use mathlib.Core.Bool.{cond};
 ghost use Prim.Native.Nat.{ℕ, _+_, _≤_, _<_};
-ghost use Rattle.table.specs.Table.{records, wordLimit};
+ghost use Rattle.table.specs.Table.{records};
 ghost use Rattle.table.specs.Forest.{kids};
 ghost use Rattle.tokens.specs.Function.{argued};
 ghost use Rattle.tokens.specs.inner.Turns.{countsFor, entersFor, turned, swept};
@@ -119,14 +120,6 @@ fn turn(sought: Sought, offset: usize, w: Swept, kind: usize, start: usize, end:
             arguments: argue(arguments, kind),
         },
     }
-}
-
-// How deep the record after a node of depth d may be: one below it where the node is gone into.
-fn reach_below(d: usize, into: bool) -> usize
-    requires { ⌜ d < wordLimit ⌝ }
-    ensures { λ r. ⌜ r ≡ cond into (d + 1) d ⌝ }
-{
-    if into { d + 1 } else { d }
 }
 
 // What is sought, below the first record of the stretch s. `reach` is how deep the next record may be, so that what stands

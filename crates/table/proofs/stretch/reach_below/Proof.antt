@@ -1,6 +1,6 @@
 use borrow.Author.Needs.{needs}
-use Rattle.tokens.proofs.sweep.reach_below.Statement.{statement}
-use Rattle.tokens.proofs.sweep.reach_below.Tie as tie
+use Rattle.table.proofs.stretch.reach_below.Statement.{statement}
+use Rattle.table.proofs.stretch.reach_below.Tie as tie
 
 pub reach-below-spec : {M : Type 1} → statement M
 reach-below-spec =

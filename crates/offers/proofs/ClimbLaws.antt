@@ -1,0 +1,164 @@
+-- The loop that climbs to the roots around a root and writes what is seen of each.
+--     Climbing, climb-start, -skip, -query, -other, -none, -last    the roots around
+--     own-written, offered-alone, offered-around                    with the root's own before them
+--     offered-written, offered-denied                               the list
+-- Assumes nothing.
+use Prim.Native.Nat.{ℕ, _+_, _-_, _*_, _/_, _≤_, _<_}
+use mathlib.Core.Path.{_≡_, refl, sym, ap, _∙_}
+use mathlib.Core.Bool.{Bool, true, false, cond}
+use mathlib.Core.List.{List, [], _∷_, _++_, append-assoc, append-nil}
+use native.Mathlib.Numerals.{add-one}
+use native.Mathlib.Omega.{arith}
+use borrow.Author.Tests.{lt-ltb, le-ltb, ltb-false, eq-eqb, ne-eqb}
+use lib.Dec.{ltb}
+use lib.ListN.{length}
+use Rattle.table.specs.Kinds.{subqueryExpression}
+use Rattle.table.specs.Table.{count, kindAt, depthAt, part}
+use Rattle.table.specs.Forest.{stretchEnd}
+use Rattle.table.specs.declared.list.Listed.the-variants.{Entries, Refused as Denied}
+use Rattle.table.specs.Lists.{listBytes, Written, Answers}
+use Rattle.table.proofs.Writes.{written-none, written-then, written-rows, length-wide, sized-written, sized-denied}
+use Rattle.names.specs.declared.names.NameBinding.{NameBinding}
+use Rattle.names.specs.Bindings.{bindingRow, bindingBytes}
+use Rattle.tables.specs.inner.Rows.{asRow}
+use Rattle.scope.specs.declared.collection.Asked.the-variants.{WithNames}
+use Rattle.scope.specs.Collection.{collectionOf}
+use Rattle.scope.specs.Scope.{withNames}
+use Rattle.scope.specs.inner.Rows.{ownRows}
+use Rattle.scope.proofs.Lists.{with-rows}
+use Rattle.path.specs.Path.{isSubquery}
+use Rattle.statement.specs.Statement.{isStatement}
+use Rattle.offers.specs.Enclosing.{above, rootsAmong, enclosingRoots}
+use Rattle.offers.specs.WithNames.{seenOf, seenOfAll, offeredIn}
+use Rattle.offers.specs.inner.Climb.{climb, outerRoot, outerNumber, lastOuter, rootsFrom}
+use Rattle.offers.proofs.Climbs.{above-climb, roots-climb}
+
+-- ---- what is known of the last enclosing root
+
+pub outer-low : (o : ℕ) → o < 2 → 0 ≡ outerNumber o
+unfolding outerNumber
+outer-low o h = rw (lt-ltb o 2 h)
+
+pub outer-high : (o : ℕ) → 2 ≤ o → o - 2 ≡ outerNumber o
+unfolding outerNumber
+outer-high o h = rw (le-ltb o 2 h)
+
+pub outer-kept : (o k x : ℕ) → 1 < o → o ≡ outerRoot o k x
+unfolding outerRoot
+outer-kept o k x h = rw (lt-ltb 1 o h)
+
+module _ (o k x : ℕ) {b : Bool} (h : o ≤ 1) (e : b ≡ isStatement k) where
+  pub outer-statement : b ≡ true → x + 2 ≡ outerRoot o k x
+  unfolding outerRoot
+  outer-statement y = rw (le-ltb 1 o h, ← e, y)
+
+  pub outer-first : b ≡ false → 1 ≡ outerRoot o k x
+  unfolding outerRoot
+  outer-first y = rw (le-ltb 1 o h, ← e, y)
+
+pub outer-bound : (o k x m : ℕ) → o ≤ m → x + 2 ≤ m → 1 ≤ m → outerRoot o k x ≤ m
+unfolding outerRoot
+outer-bound o k x m a b c = go (ltb 1 o) (isStatement k)
+  where
+    go : (p q : Bool) → cond p o (cond q (x + 2) 1) ≤ m
+    go true q = a
+    go false true = b
+    go false false = c
+
+pub outer-within : (o n c : ℕ) → o ≤ n + 1 → n < c → outerNumber o < c
+unfolding outerNumber
+outer-within o n c a b = go (ltb o 2) refl
+  where
+    go : (p : Bool) → ltb o 2 ≡ p → cond p 0 (o - 2) < c
+    go true e = omega arith
+    go false e = omega (arith, ltb-false o 2 e)
+
+-- ---- the loop
+
+module _ (src t : List ℕ) (n : ℕ) where
+  -- all that is to be written
+  abbrev pub aroundAll : List NameBinding
+  aroundAll = seenOfAll src t n (rootsAmong t (above t n))
+
+  -- before the first i records are looked at, with what was written so far
+  pub record Climbing (out₀ : List ℕ) (at d outer i : ℕ) (out : List ℕ) (next : ℕ) : Type 0 where
+    pub sofar : List NameBinding
+    pub written : Written bindingRow sofar out₀ at out next
+    pub left : sofar ++ seenOfAll src t n (rootsFrom t outer (climb t d i)) ≡ aroundAll
+
+  pub climb-start : {d : ℕ} (out : List ℕ) (at : ℕ) → n < count t → d ≡ depthAt t n → Climbing out at d 0 n out at
+  climb-start out at h e =
+      record {
+        sofar = [];
+        written = written-none bindingRow out at;
+        left = rw (e, ← above-climb t n h) (ap (seenOfAll src t n) (roots-climb t (above t n)));
+      }
+
+  module _ {out₀ : List ℕ} {at d outer i : ℕ} {out : List ℕ} {next : ℕ} (w : Climbing out₀ at d outer i out next) where
+    module _ {x : ℕ} (e : i ≡ x + 1) where
+      pub climb-skip : d ≤ depthAt t x → Climbing out₀ at d outer x out next
+      unfolding climb
+      climb-skip h = record { sofar = w .sofar; written = w .written; left = rw (e, add-one x, le-ltb (depthAt t x) d h) at (w .left) }
+
+      module _ {d′ : ℕ} (h : depthAt t x < d) (q : d′ ≡ depthAt t x) where
+        pub climb-query : {out′ : List ℕ} {next′ : ℕ} → kindAt t x ≡ subqueryExpression → Written bindingRow (seenOf src t n x) out next out′ next′
+            → Climbing out₀ at d′ 0 x out′ next′
+        unfolding climb rootsFrom seenOfAll
+        climb-query k v =
+            record {
+              sofar = w .sofar ++ seenOf src t n x;
+              written = written-then bindingRow (w .written) v;
+              left =
+                  rw q
+                  (append-assoc (w .sofar) (seenOf src t n x) (seenOfAll src t n (rootsFrom t 0 (climb t (depthAt t x) x)))
+                  ∙ (rw (e, add-one x, lt-ltb (depthAt t x) d h, eq-eqb (kindAt t x) subqueryExpression k) at (w .left)));
+            }
+
+        pub climb-other : {outer′ : ℕ} → (kindAt t x ≡ subqueryExpression → ⊥) → outer′ ≡ outerRoot outer (kindAt t x) x → Climbing out₀ at d′ outer′ x out next
+        unfolding climb rootsFrom
+        climb-other k o =
+            record {
+              sofar = w .sofar;
+              written = w .written;
+              left = rw (q, o) (rw (e, add-one x, lt-ltb (depthAt t x) d h, ne-eqb (kindAt t x) subqueryExpression k) at (w .left));
+            }
+
+    module _ (z : i ≡ 0) where
+      pub climb-none : outer ≡ 0 → Written bindingRow aroundAll out₀ at out next
+      unfolding climb rootsFrom lastOuter seenOfAll
+      climb-none o = rw (← (rw (z, o, append-nil (w .sofar)) at (w .left))) (w .written)
+
+      pub climb-last : {r : ℕ} {out′ : List ℕ} {next′ : ℕ} → (outer ≡ 0 → ⊥) → r ≡ outerNumber outer → Written bindingRow (seenOf src t n r) out next out′ next′
+          → Written bindingRow aroundAll out₀ at out′ next′
+      unfolding climb rootsFrom lastOuter seenOfAll
+      climb-last o p v =
+          let l = rw (z, ne-eqb outer 0 o, ← p, append-nil (seenOf src t n _)) at (w .left) in
+          rw (← l) (written-then bindingRow (w .written) v)
+
+  -- ---- the root's own, and then those
+
+  pub own-written : {s out out′ : List ℕ} {at at′ : ℕ} → s ≡ part t n (stretchEnd t n) → Written asRow (collectionOf (ownRows WithNames src) n s) out at out′ at′
+      → Written bindingRow (withNames src t n) out at out′ at′
+  own-written q w = written-rows bindingRow (withNames src t n) (rw (q, with-rows src t n) at w)
+
+  pub offered-alone : {out out′ : List ℕ} {at at′ : ℕ} → (kindAt t n ≡ subqueryExpression → ⊥) → Written bindingRow (withNames src t n) out at out′ at′
+      → Written bindingRow (offeredIn src t n) out at out′ at′
+  unfolding offeredIn enclosingRoots seenOfAll
+  offered-alone k w = rw (ne-eqb (kindAt t n) subqueryExpression k, append-nil (withNames src t n)) w
+
+  pub offered-around : {out mid out′ : List ℕ} {at m at′ : ℕ} → kindAt t n ≡ subqueryExpression → Written bindingRow (withNames src t n) out at mid m
+      → Written bindingRow aroundAll mid m out′ at′ → Written bindingRow (offeredIn src t n) out at out′ at′
+  unfolding offeredIn enclosingRoots
+  offered-around k w v = rw (eq-eqb (kindAt t n) subqueryExpression k) (written-then bindingRow w v)
+
+  -- ---- the list: counted on an empty part of the buffer, and then written
+  module _ (out : List ℕ) {e l : List ℕ} {m : ℕ} (c : Written bindingRow (offeredIn src t n) e 0 l m) (z : length l ≡ 0) where
+    wide : length (listBytes bindingRow (offeredIn src t n)) ≡ length (offeredIn src t n) * bindingBytes
+    wide = length-wide bindingRow bindingBytes (λ b. refl) (offeredIn src t n)
+
+    pub offered-written : {out′ : List ℕ} {m′ : ℕ} → Written bindingRow (offeredIn src t n) (l ++ out) 0 out′ m′ → m ≤ length (l ++ out)
+        → Answers [] bindingRow (offeredIn src t n) out (Entries (m / bindingBytes)) out′
+    offered-written v h = sized-written bindingRow bindingBytes (offeredIn src t n) wide (omega arith) [] out refl c z v h
+
+    pub offered-denied : length (l ++ out) < m → Answers [] bindingRow (offeredIn src t n) out (Denied 7 (m / bindingBytes)) (l ++ out)
+    offered-denied h = sized-denied bindingRow bindingBytes (offeredIn src t n) wide (omega arith) [] out refl c z h
