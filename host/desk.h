@@ -107,8 +107,11 @@ uint64_t desk_enclosing_statement(const uint8_t *table, size_t table_len, const 
 /* The root whose scope is offered: the deepest subquery around the offset, else the statement, else record 0. Answer: its record. */
 uint64_t desk_cursor_root(const uint8_t *table, size_t table_len, const uint8_t *source, size_t source_len, uint32_t offset);
 
-/* The four lists of that root; entries as above. No name of another query is ever among them. */
+/* The WITH names that can be used at the offset: that root's own, then, where the root is a subquery, those that it sees of each query around it, nearest
+ * first. Of a WITH clause whose item holds the subquery, that item and the later ones are left out. Entries of DESK_BINDING_BYTES. */
 uint64_t desk_with_names_at(const uint8_t *table, size_t table_len, const uint8_t *source, size_t source_len, uint32_t offset, uint8_t *out, size_t out_len);
+
+/* The aliases of tables and of columns, and the tables, of that root alone: no entry of a query around it or inside it is among them. Entries as above. */
 uint64_t desk_table_aliases_at(const uint8_t *table, size_t table_len, const uint8_t *source, size_t source_len, uint32_t offset, uint8_t *out, size_t out_len);
 uint64_t desk_column_aliases_at(const uint8_t *table, size_t table_len, const uint8_t *source, size_t source_len, uint32_t offset, uint8_t *out, size_t out_len);
 uint64_t desk_table_refs_at(const uint8_t *table, size_t table_len, const uint8_t *source, size_t source_len, uint32_t offset, uint8_t *out, size_t out_len);

@@ -47,7 +47,7 @@ static void from(const char *name, const char *alias) {
     end();
 }
 
-/* WITH .. SELECT (SELECT r. FROM labs r) AS lab FROM rooms r: the cursor stands behind the inner dot. `unclosed` leaves the bracket open. */
+/* WITH .. SELECT (SELECT r. FROM labs r) AS lab FROM rooms r: the cursor stands behind the inner dot, from where the WITH name is seen. `unclosed` leaves the bracket open. */
 static void write_page(int unclosed) {
     used = 0; source_len = 0; depth = 0;
     begin(FILE_NODE); begin(SELECT_STATEMENT);

@@ -1,4 +1,5 @@
 //! Both sides on one frame: every reply and every byte of every buffer.
+use crate::around;
 use crate::desk::{self, List, Of, SCOPE};
 use crate::frames::{Frame, NONE};
 use crate::rust::{in_ascii, without_lone_quotes, Asked, Said};
@@ -13,6 +14,8 @@ pub struct Tally {
     pub stopped: usize,
     pub lists: usize,
     pub entries: usize,
+    /// WITH names that a root sees of the queries around it
+    pub seen: usize,
     pub contexts: [usize; 13],
     pub glanced: usize,
 }
@@ -161,10 +164,24 @@ fn cursor(rust: &Asked, f: &Frame, table: &[u8], offset: u32, tally: &mut Tally)
     let context = rust.context(offset)?;
     tally.contexts[context[0] as usize] += 1;
     in_rooms(List::Context, f, table, Of::Cursor(offset), &[context.to_vec()], tally)?;
-    for (q, entries) in SCOPE.into_iter().zip(scope(rust, root as usize, tally)?) {
+    let mut lists = scope(rust, root as usize, tally)?;
+    lists[0].extend(around(rust, root as usize, tally)?);
+    for (q, entries) in SCOPE.into_iter().zip(lists) {
         in_rooms(q, f, table, Of::Cursor(offset), &entries, tally)?;
     }
     Ok(())
+}
+
+/// What a root sees of the WITH names around it, nearest first.
+fn around(rust: &Asked, root: usize, tally: &mut Tally) -> Result<Vec<Vec<u32>>, String> {
+    let mut out = Vec::new();
+    for outer in around::enclosing(rust.frame, root) {
+        let seen = around::seen(rust.frame, outer, root);
+        let [with_names, ..] = scope(&Asked::new(&seen).expect("as the frame itself"), outer, tally)?;
+        tally.seen += with_names.len();
+        out.extend(with_names);
+    }
+    Ok(out)
 }
 
 /// The first difference on a frame, if there is one.

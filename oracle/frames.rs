@@ -70,13 +70,14 @@ pub enum Sort {
     HalfTyped,
     Words,
     Tidy,
+    Around,
     Random,
     Deep,
     Large,
     Damaged,
 }
 
-pub const SORTS: [Sort; 9] = [Sort::Query, Sort::OneAlias, Sort::HalfTyped, Sort::Words, Sort::Tidy, Sort::Random, Sort::Deep, Sort::Large, Sort::Damaged];
+pub const SORTS: [Sort; 10] = [Sort::Query, Sort::OneAlias, Sort::HalfTyped, Sort::Words, Sort::Tidy, Sort::Around, Sort::Random, Sort::Deep, Sort::Large, Sort::Damaged];
 
 const MESSAGES: [&str; 9] = [
     "", "expected )", "expected ]", "expected }", "x expected ] or expected )", "expected", "unexpected )", "expected }, expected ]", "é expected )é",
@@ -92,6 +93,7 @@ pub fn frame(sort: Sort, seed: &mut Seed) -> Frame {
             words(&some, seed)
         }
         Sort::Tidy => tidy(seed),
+        Sort::Around => around(seed),
         Sort::Random => {
             let most = seed.of(&[3, 6, 12, 25, 60]);
             let deepest = seed.of(&[3, 6, 12]);
@@ -405,6 +407,41 @@ fn tidy(seed: &mut Seed) -> Frame {
     let root = if seed.one_in(2) { 1 } else { seed.of(&RULED) };
     let mut q = Query { f: empty(), depth: 0, deepest: 63, seed };
     q.node(root, |q| { let left = 1 + q.seed.below(4); branch(q, left) });
+    q.f
+}
+
+/// Subqueries in WITH items and elsewhere, in each other: what an inner query sees of the WITH names around it.
+fn around(seed: &mut Seed) -> Frame {
+    fn statement(q: &mut Query, left: usize) {
+        let kind = q.seed.of(&[4, 4, 4, 5, 13, 0]);
+        q.node(kind, |q| for _ in 0..1 + q.seed.below(3) {
+            match q.seed.below(3) {
+                0 => with(q, left),
+                1 => { let clause = q.seed.of(&[15, 19, 16, 0]); q.node(clause, |q| subquery(q, left)) }
+                _ => subquery(q, left),
+            }
+        });
+    }
+    fn with(q: &mut Query, left: usize) {
+        q.node(14, |q| for _ in 0..1 + q.seed.below(3) { item(q, left, 2) });
+    }
+    fn item(q: &mut Query, left: usize, lists: usize) {
+        if lists > 0 && q.seed.one_in(3) {
+            let list = q.seed.of(&[31, 31, 32, 0]);
+            return q.node(list, |q| for _ in 0..1 + q.seed.below(2) { item(q, left, lists - 1) });
+        }
+        q.node(29, |q| {
+            if !q.seed.one_in(5) { let (kind, name) = q.seed.of(&[(131, "a"), (131, "b"), (132, "`c`"), (131, "as")]); q.token(kind, name) }
+            if q.seed.one_in(2) { subquery(q, left) }
+        });
+    }
+    fn subquery(q: &mut Query, left: usize) {
+        if left == 0 { return q.token(131, "x") }
+        q.node(30, |q| { if q.seed.one_in(3) { with(q, left - 1) } statement(q, left - 1) });
+    }
+    let root = seed.of(&[1, 1, 1, 30, 30, 4, 14, 0]);
+    let mut q = Query { f: empty(), depth: 0, deepest: 63, seed };
+    q.node(root, |q| for _ in 0..1 + q.seed.below(3) { if q.seed.one_in(4) { with(q, 3) } else { statement(q, 3) } });
     q.f
 }
 

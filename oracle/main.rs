@@ -5,6 +5,7 @@
 //!   oracle store FILE FRAMES SEED                           writes the stored list
 //!   oracle glance                                           prints what the program glance must print for its input
 //!   oracle measure                                          asks each side each question between marks, for an instruction counter around it
+mod around;
 mod compare;
 mod desk;
 mod frames;
@@ -35,6 +36,7 @@ fn sort_of(i: usize) -> Sort {
         43..=56 => Sort::Tidy,
         57..=74 => Sort::Random,
         75..=79 => Sort::Deep,
+        80..=87 => Sort::Around,
         99 if i % 1000 == 99 => Sort::Large,
         _ => Sort::Damaged,
     }
@@ -75,6 +77,7 @@ fn compare(frames: usize, seed: u64, glance: Program) -> bool {
         println!("{n} frames {sort:?} agreed");
     }
     println!("{} of them asked the Rust; {} lists with {} entries, each in five rooms", tally.rust_asked, tally.lists, tally.entries);
+    println!("{} WITH names were seen from inside", tally.seen);
     println!("the Rust stopped at a lone quote mark {} times; {} frames are no text, and were asked with a mark for each byte over 127", tally.stopped, tally.no_text);
     println!("refusals by number: {:?}", &tally.refused[1..]);
     println!("contexts by number: {:?}", tally.contexts);

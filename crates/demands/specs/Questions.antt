@@ -15,6 +15,7 @@ use Rattle.tables.specs.Tables.{referenceRow}
 use Rattle.statement.specs.Statement.{enclosingAt}
 use Rattle.cursor.specs.CursorContext.{contextAt}
 use Rattle.offers.specs.Root.{rootAt}
+use Rattle.offers.specs.WithNames.{withNamesAt}
 use Rattle.replies.specs.Reply.{noRecord as nothing, hintRecord, contextRow}
 use Rattle.demands.specs.declared.Question.{Question}
 use Rattle.demands.specs.declared.Question.the-variants.{Check, TokenClasses, OpenersLeft, BracketHint, WithNames, TableAliases, ColumnAliases, TableRefs, CursorContext, EnclosingStatement, CursorRoot, WithNamesAt, TableAliasesAt, ColumnAliasesAt, TableRefsAt}
@@ -76,7 +77,7 @@ matter TableRefs a = ofRoot (a .root) (list referenceRow (tableRefs (a .source) 
 matter CursorContext a = plain (list contextRow (contextAt (a .source) (a .table) (a .offset) ∷ []))
 matter EnclosingStatement a = plain (number (statementRecord (enclosingAt (a .table) (a .offset))))
 matter CursorRoot a = plain (number (rootAt (a .table) (a .offset)))
-matter WithNamesAt a = plain (list bindingRow (withNames (a .source) (a .table) (rootAt (a .table) (a .offset))))
+matter WithNamesAt a = plain (list bindingRow (withNamesAt (a .source) (a .table) (a .offset)))
 matter TableAliasesAt a = plain (list bindingRow (tableAliases (a .source) (a .table) (rootAt (a .table) (a .offset))))
 matter ColumnAliasesAt a = plain (list bindingRow (columnAliases (a .source) (a .table) (rootAt (a .table) (a .offset))))
 matter TableRefsAt a = plain (list referenceRow (tableRefs (a .source) (a .table) (rootAt (a .table) (a .offset))))

@@ -4,8 +4,8 @@ use cursor::cursor_context::cursor_context;
 use offers::offers::column_aliases_at;
 use offers::offers::table_aliases_at;
 use offers::offers::table_refs_at;
-use offers::offers::with_names_at;
 use offers::root::cursor_root;
+use offers::with_names::with_names_at;
 use replies::reply::list_context;
 use replies::reply::list_reply;
 use replies::reply::packed;
@@ -18,11 +18,12 @@ ghost use lib.ListN.{length};
 ghost use Rattle.table.specs.Rules.{rules, verdict};
 ghost use Rattle.names.specs.Bindings.{bindingRow};
 ghost use Rattle.tables.specs.Tables.{referenceRow};
-ghost use Rattle.scope.specs.Scope.{withNames, tableAliases, columnAliases, tableRefs};
+ghost use Rattle.scope.specs.Scope.{tableAliases, columnAliases, tableRefs};
 ghost use Rattle.statement.specs.Statement.{enclosingAt, statementReply};
 ghost use Rattle.cursor.specs.CursorContext.{contextAt};
 ghost use Rattle.offers.specs.Root.{rootAt, rootReply};
 ghost use Rattle.replies.specs.Reply.{statementNumber, rootNumber, contextRow, AnswersC};
+ghost use Rattle.offers.specs.WithNames.{withNamesAt};
 
 // The statement that encloses the offset. High half of an answer: its record, or 4294967295 for none.
 #[no_mangle]
@@ -41,7 +42,8 @@ pub extern "C" fn desk_cursor_root(table: &[u8], source: &[u8], offset: u32) -> 
     root_number(cursor_root(table, source, offset as usize))
 }
 
-// The WITH names offered at the offset. High half of an answer: the entries written.
+// The WITH names offered at the offset: those of the cursor's root, then those that it sees of the queries around it. High half of an answer: the
+// entries written.
 #[no_mangle]
 pub extern "C" fn desk_with_names_at(
     table: &[u8],
@@ -50,7 +52,7 @@ pub extern "C" fn desk_with_names_at(
     out: &mut [u8],
 ) -> u64
     ensures { λ r. ⌜ AnswersC (rules (now (table .entry)) (length (now (source .entry))) 0) bindingRow
-        (withNames (now (source .entry)) (now (table .entry)) (rootAt (now (table .entry)) offset)) (now (out .entry)) r (now (out .exit)) ⌝ }
+        (withNamesAt (now (source .entry)) (now (table .entry)) offset) (now (out .entry)) r (now (out .exit)) ⌝ }
 {
     list_reply(with_names_at(table, source, offset as usize, out))
 }
