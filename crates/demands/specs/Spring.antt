@@ -1,53 +1,74 @@
--- The morning in the spring: an alias of the outer query was taken for one of the inner query. Nothing that is offered at a cursor belongs
--- to another query: each list is read off the records of the cursor's root alone, with every inner subquery emptied.
+-- The morning in the spring: an alias of the outer query was taken for one of the inner query. Each alias, column and reference that is offered at
+-- a cursor is of the cursor's own query, and each WITH name is of it, or of a query around it from where it is seen: said of the rows that the four
+-- questions at the cursor say. Where the cursor stands in no statement, its query is the whole page. The words are in roots/specs/Nearest.antt.
 -- The theorem is `spring` in proofs/Spring.antt; the frame of that morning is computed below.
 use Prim.Native.Nat.{ℕ}
 use mathlib.Core.Path.{_≡_, refl}
-use mathlib.Core.List.{List, [], _∷_, _++_}
+use mathlib.Core.Bool.{false}
+use mathlib.Core.List.{List, [], _∷_, _++_, map, List·Memᴰ}
 use lib.ListN.{length}
-use Rattle.table.specs.declared.record.Rec.{Rec}
 use Rattle.table.specs.declared.check.Verdict.the-variants.{Admitted}
 use Rattle.table.specs.Kinds.{file, selectStatement, selectClause, fromClause, whereClause, subqueryExpression, tableIdentifier, tableAlias, columnReference, otherToken, bareWord, openingRound, closingRound}
-use Rattle.table.specs.Table.{word, recordAt, run, from, records, part}
-use Rattle.table.specs.Forest.{Forest, level, kids, extent, stretchEnd}
+use Rattle.table.specs.Table.{word, kindAt, recordAt, run, from}
+use Rattle.table.specs.Forest.{level, kids, extent, stretchEnd}
 use Rattle.table.specs.Descent.{path, pathOf, along}
 use Rattle.table.specs.Tokens.{tokensOf, only}
 use Rattle.table.specs.Rules.{rulesFrom, misplaced, lastEnd, badSpan, verdict}
 use Rattle.table.specs.Text.{bytesOf, upper, text, says}
 use Rattle.table.specs.worked.Worked.{rec}
 use Rattle.names.specs.Names.{isAs, isPart, isName, direct, unquoted, nameOf, binding, lastNamed}
-use Rattle.scope.specs.Collection.{nodeGives, collected, collection, ownWith, ownColumns, ownTables}
-use Rattle.tables.specs.Tables.{fresh, aliased, handOn, listAlias, tableReading, references, aliases}
-use Rattle.scope.specs.Scope.{withNames, tableAliases, columnAliases, tableRefs}
-use Rattle.roots.specs.AllRoots.{emptied}
+use Rattle.names.specs.Bindings.{bindingRow}
+use Rattle.scope.specs.Collection.{nodeGives, collected, collection, ownWith, ownTables}
+use Rattle.tables.specs.Tables.{fresh, aliased, handOn, listAlias, tableReading, referenceRow}
+use Rattle.scope.specs.Scope.{withNames}
+use Rattle.roots.specs.Nearest.{DeepestQuery, TableAliasOf, ColumnAliasOf, TableRefOf, OwnOrSeen}
 use Rattle.statement.specs.Statement.{orElse, firstFind, enclosingAt}
-use Rattle.path.specs.Path.{deepestOr, onPath, nextOf}
+use Rattle.path.specs.Path.{isSubquery, deepestOr, onPath, nextOf}
 use Rattle.tokens.specs.LastToken.{lastOr, init, lastTwo, isText, dotted}
 use Rattle.cursor.specs.Trailing.{lastClause, pastClause, pastEnd, trailingIn}
 use Rattle.cursor.specs.PathRules.{columnOr, column, pathRules, ruled, elseAsk as either, byPath}
 use Rattle.cursor.specs.CursorContext.{lastRule, givenOr, contextAt}
 use Rattle.cursor.specs.Context.{rangeOf, coded}
 use Rattle.offers.specs.Root.{statementOr, rootOf, rootAt}
+use Rattle.offers.specs.Enclosing.{aboveAmong, queries, someQuery, beyond, statementAmong, lastRoot, rootsAmong, enclosingRoots}
+use Rattle.offers.specs.WithNames.{items, itemsBefore, boundBy, ownSeen, seenOfAll, offeredIn}
 use Rattle.replies.specs.Reply.{contextRow}
-use Rattle.demands.specs.declared.Question.the-variants.{CursorContext, TableAliases, TableRefs, TableAliasesAt, TableRefsAt}
-use Rattle.demands.specs.Questions.{Asked, asked, rows, matter}
+use Rattle.demands.specs.declared.Question.the-variants.{CursorContext, TableAliases, TableRefs, WithNamesAt, TableAliasesAt, ColumnAliasesAt, TableRefsAt}
+use Rattle.demands.specs.Questions.{Asked, asked, Said, number, rows, list, matter}
 use Rattle.table.specs.Ranges.{absentNumber}
 
 -- ---- the theorem's statement
 
--- the cursor's root, and what is below it: of the records of its stretch, and of no others
-abbrev pub rootRecord : List ℕ → ℕ → Rec
-rootRecord t o = let i : ℕ = rootAt t o in recordAt (part t i (stretchEnd t i)) i 0
+-- the row r is that of an entry of which P is true
+pub record RowOf {E : Type 0} (row : E → List ℕ) (P : E → Type 0) (r : List ℕ) : Type 0 where
+  pub it : E
+  pub its-row : row it ≡ r
+  pub is-so : P it
 
-abbrev pub rootTree : List ℕ → ℕ → Forest
-rootTree t o = let i : ℕ = rootAt t o in kids (records i (part t i (stretchEnd t i)))
+-- what is said is a list, and each of its rows is that of an entry of which P is true
+unfoldable pub SaysOnly : {E : Type 0} → (E → List ℕ) → (E → Type 0) → Said → Type 0
+SaysOnly row P (number n) = ⊥
+SaysOnly row P (rows rs) = (r : List ℕ) → List·Memᴰ r rs → RowOf row P r
 
--- what is offered at a cursor is what the root's own part of the tree gives
-pub record Spring (src t : List ℕ) (o : ℕ) : Type 0 where
-  pub with-names : withNames src t (rootAt t o) ≡ collection (ownWith src) (rootRecord t o) (emptied (rootTree t o))
-  pub table-aliases : tableAliases src t (rootAt t o) ≡ collection (ownTables aliases src) (rootRecord t o) (emptied (rootTree t o))
-  pub column-aliases : columnAliases src t (rootAt t o) ≡ collection (ownColumns src) (rootRecord t o) (emptied (rootTree t o))
-  pub table-refs : tableRefs src t (rootAt t o) ≡ collection (ownTables references src) (rootRecord t o) (emptied (rootTree t o))
+-- the cursor's root
+abbrev pub rootOfCursor : Asked → ℕ
+rootOfCursor a = rootAt (a .table) (a .offset)
+
+-- what is true of every answer at a cursor
+pub record Spring (a : Asked) : Type 0 where
+  -- every subquery on the path to the cursor is the cursor's root or has it below; where there is one, the root is one of them
+  pub root : DeepestQuery (a .table) (a .offset) (rootOfCursor a)
+  -- each table alias, column alias and reference stands in a clause, and at a node in it, whose nearest root is the cursor's root
+  pub table-aliases : SaysOnly bindingRow (TableAliasOf (a .source) (a .table) (rootOfCursor a)) (matter TableAliasesAt a .said)
+  pub column-aliases : SaysOnly bindingRow (ColumnAliasOf (a .source) (a .table) (rootOfCursor a)) (matter ColumnAliasesAt a .said)
+  pub table-refs : SaysOnly referenceRow (TableRefOf (a .source) (a .table) (rootOfCursor a)) (matter TableRefsAt a .said)
+  -- so does each WITH name; or its nearest root is one around the cursor's, and neither its item nor one before it in its clause holds the cursor's query
+  pub with-names : SaysOnly bindingRow (OwnOrSeen (a .source) (a .table) (rootOfCursor a)) (matter WithNamesAt a .said)
+  -- the root's own WITH names come first, and alone where the root is no subquery
+  pub more : List (List ℕ)
+  pub own-first : matter WithNamesAt a .said ≡ rows (map bindingRow (withNames (a .source) (a .table) (rootOfCursor a)) ++ more)
+  pub own-alone : isSubquery (kindAt (a .table) (rootOfCursor a)) ≡ false
+      → matter WithNamesAt a .said ≡ list bindingRow (withNames (a .source) (a .table) (rootOfCursor a))
 
 -- ---- that morning: the outer and the inner query both name an alias r, and the cursor stands behind the inner `r.`
 
@@ -123,3 +144,8 @@ now : (matter TableAliasesAt that .said ≡ rows ((58 ∷ 59 ∷ 58 ∷ 59 ∷ 5
     × (matter TableRefsAt that .said ≡ rows ((31 ∷ noRange ∷ noRange ∷ 54 ∷ 57 ∷ 58 ∷ 59 ∷ []) ∷ []))
 unfolding matter collection collected nodeGives ownTables tableReading handOn listAlias aliased fresh lastNamed binding nameOf unquoted isName isAs says text upper bytesOf isPart direct kids level from run recordAt word stretchEnd extent path pathOf orElse firstFind enclosingAt deepestOr statementOr rootOf rootAt
 now = (refl, refl)
+
+-- neither query has a WITH clause, and no WITH name is offered
+now-with : matter WithNamesAt that .said ≡ rows []
+unfolding matter collection collected nodeGives ownWith bytesOf kids level from run recordAt word stretchEnd extent path pathOf orElse firstFind enclosingAt deepestOr statementOr rootOf rootAt aboveAmong queries someQuery beyond statementAmong lastRoot rootsAmong enclosingRoots items itemsBefore boundBy ownSeen seenOfAll offeredIn
+now-with = refl

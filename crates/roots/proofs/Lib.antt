@@ -1,5 +1,7 @@
 pub mod AllRoots
-pub mod Apart
 pub mod Counts
+pub mod Covers
+pub mod DeepestQuery
 pub mod Exact
-pub mod Offered
+pub mod Nearest
+pub mod SeenRoots

@@ -1,5 +1,5 @@
 -- Demand 3 over the public promise of the reference question: replies and bytes alone.
--- Definitions only; the theorems are in proofs/AllRoots.antt and proofs/Apart.antt.
+-- Definitions only; the theorem is in proofs/AllRoots.antt.
 use Prim.Native.Nat.{ℕ, zero, suc, _+_}
 use mathlib.Core.Path.{_≡_}
 use mathlib.Core.Bool.{true, cond}
@@ -8,9 +8,7 @@ use lib.Dec.{eqb}
 use lib.ListN.{length, drop}
 use Rattle.table.specs.declared.list.Listed.{Listed}
 use Rattle.table.specs.declared.list.Listed.the-variants.{Entries}
-use Rattle.table.specs.Kinds.{subqueryExpression}
 use Rattle.table.specs.Table.{word}
-use Rattle.table.specs.Forest.{Forest, nil, token, node}
 use Rattle.table.specs.Rules.{rootRules}
 use Rattle.table.specs.Lists.{listed, lent}
 use Rattle.table.specs.Places.{Place, nodesOf, sum}
@@ -57,13 +55,3 @@ pub record AllRoots (src t : List ℕ) (s : Served src t) : Type 0 where
   -- so the lists' total is that count summed over the tree
   pub total : sum (λ (root : Place). cond (isRoot root) (s .entries (root .self .index)) 0) (nodesOf t)
       ≡ sum (λ (p : Place). cond (isTableName p) (reaches p) 0) (nodesOf t)
-
--- ---- what stands below another root
-
--- siblings and what is below them, each inner subquery emptied
-unfoldable pub emptied : Forest → Forest
-emptied nil = nil
-emptied (token r rest) = token r (emptied rest)
-emptied (node r below rest) =
-    let inside : Forest = emptied below in
-    node r (cond (eqb (r .kind) subqueryExpression) nil inside) (emptied rest)

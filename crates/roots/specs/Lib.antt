@@ -1,2 +1,4 @@
 pub mod AllRoots
+pub mod Nearest
 pub mod Reach
+pub mod worked

@@ -1,0 +1,323 @@
+-- Whose the entries of a root are: each stands in a clause, and at a node, whose nearest root it is.
+--     table-alias-of, column-alias-of, table-ref-of, with-name-of    of any record of any table
+-- Assumes nothing.
+use Prim.Native.Nat.{ℕ, _+_, _≤_, _<_}
+use mathlib.Core.Path.{_≡_, refl, sym, ap, _∙_}
+use mathlib.Core.Bool.{Bool, true, false, cond, _||_}
+use mathlib.Core.List.{List, [], _∷_, _++_, List·Memᴰ, List·Memᴰ·not-nil, List·Memᴰ·append-cases, List·Memᴰ·eq-of-singleton}
+use mathlib.Core.Logic.{_⊎_, inl, inr, ⊎-elim}
+use native.Mathlib.Nat.{zero-add}
+use native.Mathlib.Omega.{arith}
+use borrow.Author.Tests.{eqb-true}
+use lib.Dec.{eqb}
+use Rattle.table.specs.declared.record.Rec.{Rec}
+use Rattle.table.specs.Kinds.{withClause, selectClause, fromClause, withExpressionItem, subqueryExpression, columnList, expressionList, columnAlias, tableIdentifier, tableExpression, tableAlias, joinClause}
+use Rattle.table.specs.Table.{count, depthAt, kindAt, recordAt, from, records, part}
+use Rattle.table.specs.Forest.{Forest, nil, token, node, kids, level, stretchEnd, inside}
+use Rattle.table.proofs.Laws.{from-cons, kids-part, head-part}
+use Rattle.names.specs.declared.names.NameBinding.{NameBinding}
+use Rattle.names.specs.declared.names.Bound.{Bound}
+use Rattle.names.specs.declared.names.Bound.the-variants.{Unnamed, Named}
+use Rattle.names.specs.Names.{isPart, direct, withItem, aliasIn}
+use Rattle.names.specs.Bindings.{entry, boundIn}
+use Rattle.tables.specs.declared.pending.TableRef.{TableRef}
+use Rattle.tables.specs.declared.pending.Pending.{Pending}
+use Rattle.tables.specs.declared.pending.Pending.the-variants.{Nothing, Held}
+use Rattle.tables.specs.Tables.{fresh, aliased, Listing, handOn, listAlias, tableReading, references, aliases}
+use Rattle.scope.specs.Collection.{nodeGives, collected, collection, ownWith, ownColumns, ownTables}
+use Rattle.scope.specs.Scope.{collectionAt, withNames, tableAliases, columnAliases, tableRefs}
+use Rattle.path.specs.Path.{isSubquery}
+use Rattle.roots.specs.Nearest.{NearestRoot, EntryOf, aliasAt, columnAt, referenceAt, itemAt, TableAliasOf, ColumnAliasOf, TableRefOf, WithNameOf}
+use Rattle.roots.proofs.Counts.{decide}
+use Rattle.roots.proofs.Covers.{Sibling, Cover, inside-cover, Apart, apart-here, apart-in, apart-below, nearest-self, nearest-below, nearest-in}
+
+-- nothing stands in an empty list
+pub in-none : {E A : Type 0} {e : E} → List·Memᴰ e [] → A
+in-none m = absurd (List·Memᴰ·not-nil m)
+
+pub in-entry : (b : Bound) (e : NameBinding) → List·Memᴰ e (entry b) → b ≡ Named e
+unfolding entry
+in-entry Unnamed e m = in-none m
+in-entry (Named x) e m = ap Named (sym (List·Memᴰ·eq-of-singleton m))
+
+-- a kind that passes a test which kind 30 does not pass
+pub no-query : (test : ℕ → Bool) (k : ℕ) → test k ≡ true → test subqueryExpression ≡ false → isSubquery k ≡ false
+no-query test k e d =
+    decide k subqueryExpression
+    (λ q. absurd (let y : true ≡ false = sym e ∙ ap test q ∙ d in let z : _≡_ {A = ℕ} 0 1 = cc in omega arith))
+    (λ q. q)
+
+module _ (t : List ℕ) where
+  -- ---- an entry that stands at a record among siblings
+
+  pub record Met {E : Type 0} (is : E → Rec → Forest → Type 0) (lo hi : ℕ) (e : E) : Type 0 where
+    pub at : ℕ
+    pub apart : Apart t lo hi at
+    pub it : is e (recordAt t 0 at) (inside t at)
+
+  module _ {E : Type 0} (is : E → Rec → Forest → Type 0) where
+    met-here : (lo hi : ℕ) (r : Rec) (f : Forest) (e : E) → Sibling t lo hi r → f ≡ inside t (r .index) → isSubquery (r .kind) ≡ false → is e r f → Met is lo hi e
+    met-here lo hi r f e s b k w = record { at = r .index; apart = apart-here t s k; it = rw (← b, ← s .itself) w }
+
+    met-in : (lo hi : ℕ) (r : Rec) (e : E) → Sibling t lo hi r → isSubquery (r .kind) ≡ false → Met is (r .index + 1) (stretchEnd t (r .index)) e → Met is lo hi e
+    met-in lo hi r e s k w = record { at = w .at; apart = apart-in t s k (w .apart); it = w .it }
+
+  -- ---- a collection's entries stand in the own parts of nodes that no kind 30 is at or above
+
+  module _ {E : Type 0} (own : ℕ → Forest → List E) where
+    abbrev ofOwn : E → Rec → Forest → Type 0
+    ofOwn e r f = List·Memᴰ e (own (r .kind) f)
+
+    in-gives : (k : ℕ) (f : Forest) (inner : List E) (e : E) → List·Memᴰ e (nodeGives own k f inner) → List·Memᴰ e (own k f) ⊎ List·Memᴰ e inner
+    unfolding nodeGives
+    in-gives k f inner e m = ⊎-elim inl (λ n. inr (go (eqb k withClause) n)) (List·Memᴰ·append-cases (own k f) m)
+      where
+        go : (b : Bool) → List·Memᴰ e (cond b [] inner) → List·Memᴰ e inner
+        go true n = in-none n
+        go false n = n
+
+    in-collected : (f : Forest) (lo hi : ℕ) (e : E) → Cover t lo hi f → List·Memᴰ e (collected own f) → Met ofOwn lo hi e
+    unfolding collected Cover
+    in-collected nil lo hi e w m = in-none m
+    in-collected (token r rest) lo hi e w m = in-collected rest lo hi e w m
+    in-collected (node r f rest) lo hi e w m =
+        ⊎-elim
+        (go (eqb (r .kind) subqueryExpression) refl (in-collected f (r .index + 1) (stretchEnd t (r .index)) e (w .2)))
+        (in-collected rest lo hi e (w .3))
+        (List·Memᴰ·append-cases _ m)
+      where
+        go : (b : Bool) → eqb (r .kind) subqueryExpression ≡ b → (List·Memᴰ e (collected own f) → Met ofOwn (r .index + 1) (stretchEnd t (r .index)) e)
+            → List·Memᴰ e (cond b [] (nodeGives own (r .kind) f (collected own f))) → Met ofOwn lo hi e
+        go true q d n = in-none n
+        go false q d n =
+            ⊎-elim
+            (met-here ofOwn lo hi r f e (w .0) (w .1) q)
+            (λ i. met-in ofOwn lo hi r e (w .0) q (d i))
+            (in-gives (r .kind) f (collected own f) e n)
+
+    -- of a record of the table
+    its-collection : (n : ℕ) → n < count t → collectionAt own t n ≡ collection own (recordAt t 0 n) (inside t n)
+    its-collection n h =
+        let a : recordAt (part t n (stretchEnd t n)) n 0 ≡ recordAt t 0 n = rw (zero-add n) at (head-part t 0 n h refl) in
+        let b : kids (records n (part t n (stretchEnd t n))) ≡ level (depthAt t n + 1) (from t 0 (n + 1)) = rw (zero-add n) at (kids-part t 0 (depthAt t n) n h refl) in
+        rw (a, b, from-cons t 0 n h) (unfold kids recordAt in refl)
+
+    -- a clause of the root n, and what its own part gives
+    pub record ClauseOf (n : ℕ) (e : E) : Type 0 where
+      pub clause : ℕ
+      pub within : clause < count t
+      pub inner : stretchEnd t clause ≤ stretchEnd t n
+      pub nearest-root : NearestRoot t n clause
+      pub given : List·Memᴰ e (own (kindAt t clause) (inside t clause))
+
+    pub clause-of : (n : ℕ) (e : E) → n < count t → List·Memᴰ e (collectionAt own t n) → ClauseOf n e
+    unfolding collection recordAt
+    clause-of n e h m =
+        ⊎-elim
+        (λ g. record { clause = n; within = h; inner = omega arith; nearest-root = nearest-self t n; given = g })
+        (λ i.
+        let w = in-collected (inside t n) (n + 1) (stretchEnd t n) e (inside-cover t n h) i in
+        record {
+          clause = w .at;
+          within = w .apart .within;
+          inner = w .apart .high;
+          nearest-root = nearest-below t n (w .at) (w .apart);
+          given = w .it;
+        })
+        (in-gives (kindAt t n) (inside t n) (collected own (inside t n)) e (rw (its-collection n h) at m))
+
+  -- ---- what the nodes of one kind bind
+
+  module _ (kind : ℕ) (isList : ℕ → Bool) (bind : Rec → Forest → Bound) (not-kind : eqb subqueryExpression kind ≡ false) (not-list : isList subqueryExpression ≡ false) where
+    abbrev binds : NameBinding → Rec → Forest → Type 0
+    binds e r f = (r .kind ≡ kind) × (bind r f ≡ Named e)
+
+    in-bound : (f : Forest) (lo hi : ℕ) (e : NameBinding) → Cover t lo hi f → List·Memᴰ e (boundIn kind isList bind f) → Met binds lo hi e
+    unfolding boundIn Cover
+    in-bound nil lo hi e w m = in-none m
+    in-bound (token r rest) lo hi e w m = in-bound rest lo hi e w m
+    in-bound (node r f rest) lo hi e w m =
+        ⊎-elim
+        (go (eqb (r .kind) kind) (isList (r .kind)) refl refl (in-bound f (r .index + 1) (stretchEnd t (r .index)) e (w .2)))
+        (in-bound rest lo hi e (w .3))
+        (List·Memᴰ·append-cases _ m)
+      where
+        go : (a b : Bool) → eqb (r .kind) kind ≡ a → isList (r .kind) ≡ b
+            → (List·Memᴰ e (boundIn kind isList bind f) → Met binds (r .index + 1) (stretchEnd t (r .index)) e)
+            → List·Memᴰ e (cond a (entry (bind r f)) (cond b (boundIn kind isList bind f) [])) → Met binds lo hi e
+        go true b p q d n =
+            met-here binds lo hi r f e (w .0) (w .1) (no-query (λ k. eqb k kind) (r .kind) p not-kind) (eqb-true (r .kind) kind p, in-entry (bind r f) e n)
+        go false true p q d n = met-in binds lo hi r e (w .0) (no-query isList (r .kind) q not-list) (d n)
+        go false false p q d n = in-none n
+
+  -- ---- what a table reading lists, where Pends p e says that e is, or is made of, what is pending
+
+  module _ {E : Type 0} (L : Listing E) (src : List ℕ) (Pends : Pending → E → Type 0) (is : E → Rec → Forest → Type 0)
+      (hand : (p : Pending) (e : E) → List·Memᴰ e (handOn L p) → Pends p e)
+      (keep : (p : Pending) (b : Bound) (e : E) → Pends (aliased p b) e → Pends p e)
+      (idle : (e : E) → Pends Nothing e → ⊥)
+      (name-is : (r : Rec) (f : Forest) (e : E) → r .kind ≡ tableIdentifier → Pends (fresh (r .index) (direct isPart f)) e → is e r f)
+      (alias-is : (p : Pending) (r : Rec) (f : Forest) (e : E) → r .kind ≡ tableAlias → List·Memᴰ e (listAlias L p (aliasIn src r f)) → is e r f) where
+    abbrev read : Pending → Forest → List E
+    read = tableReading L src
+
+    in-reading : (f : Forest) (p : Pending) (lo hi : ℕ) (e : E) → Cover t lo hi f → List·Memᴰ e (read p f) → Pends p e ⊎ Met is lo hi e
+    unfolding tableReading Cover
+    in-reading nil p lo hi e w m = inl (hand p e m)
+    in-reading (token r rest) p lo hi e w m = in-reading rest p lo hi e w m
+    in-reading (node r f rest) p lo hi e w m =
+        go (eqb (r .kind) tableIdentifier) (eqb (r .kind) tableAlias) (eqb (r .kind) tableExpression) (eqb (r .kind) joinClause) refl refl refl refl
+        (λ n. ⊎-elim (λ x. absurd (idle e x)) (λ x. x) (in-reading f Nothing (r .index + 1) (stretchEnd t (r .index)) e (w .2) n))
+        (λ q n. in-reading rest q lo hi e (w .3) n) m
+      where
+        go : (a b c d : Bool) → eqb (r .kind) tableIdentifier ≡ a → eqb (r .kind) tableAlias ≡ b → eqb (r .kind) tableExpression ≡ c → eqb (r .kind) joinClause ≡ d
+            → (List·Memᴰ e (read Nothing f) → Met is (r .index + 1) (stretchEnd t (r .index)) e)
+            → ((q : Pending) → List·Memᴰ e (read q rest) → Pends q e ⊎ Met is lo hi e)
+            → List·Memᴰ e (cond a (handOn L p ++ read (fresh (r .index) (direct isPart f)) rest)
+            (cond b (listAlias L p (aliasIn src r f) ++ read (aliased p (aliasIn src r f)) rest)
+            (cond c (read Nothing f ++ read p rest) (cond d (handOn L p ++ (read Nothing f ++ read Nothing rest)) (read p rest)))))
+            → Pends p e ⊎ Met is lo hi e
+        go true b c d x y z u down on m =
+            ⊎-elim
+            (λ n. inl (hand p e n))
+            (λ n.
+            ⊎-elim
+            (λ i. inr (met-here is lo hi r f e (w .0) (w .1) (no-query (λ k. eqb k tableIdentifier) (r .kind) x refl) (name-is r f e (eqb-true (r .kind) tableIdentifier x) i)))
+            inr
+            (on (fresh (r .index) (direct isPart f)) n))
+            (List·Memᴰ·append-cases (handOn L p) m)
+        go false true c d x y z u down on m =
+            ⊎-elim
+            (λ n. inr (met-here is lo hi r f e (w .0) (w .1) (no-query (λ k. eqb k tableAlias) (r .kind) y refl) (alias-is p r f e (eqb-true (r .kind) tableAlias y) n)))
+            (λ n. ⊎-elim (λ i. inl (keep p (aliasIn src r f) e i)) inr (on (aliased p (aliasIn src r f)) n))
+            (List·Memᴰ·append-cases (listAlias L p (aliasIn src r f)) m)
+        go false false true d x y z u down on m =
+            ⊎-elim
+            (λ n. inr (met-in is lo hi r e (w .0) (no-query (λ k. eqb k tableExpression) (r .kind) z refl) (down n)))
+            (on p)
+            (List·Memᴰ·append-cases (read Nothing f) m)
+        go false false false true x y z u down on m =
+            ⊎-elim
+            (λ n. inl (hand p e n))
+            (λ n.
+            ⊎-elim
+            (λ i. inr (met-in is lo hi r e (w .0) (no-query (λ k. eqb k joinClause) (r .kind) u refl) (down i)))
+            (λ i. ⊎-elim (λ j. absurd (idle e j)) inr (on Nothing i))
+            (List·Memᴰ·append-cases (read Nothing f) n))
+            (List·Memᴰ·append-cases (handOn L p) m)
+        go false false false false x y z u down on m = on p m
+
+  -- ---- THE FOUR LISTS of record n
+
+  entry-of : {E : Type 0} (own : ℕ → Forest → List E) (is : E → Rec → Forest → Type 0)
+      → ((k : ℕ) (f : Forest) (lo hi : ℕ) (e : E) → Cover t lo hi f → List·Memᴰ e (own k f) → Met is lo hi e)
+      → (n : ℕ) (e : E) → n < count t → List·Memᴰ e (collectionAt own t n) → EntryOf own is t n e
+  entry-of own is parts n e h m =
+      let c = clause-of own n e h m in
+      let w = parts (kindAt t (c .clause)) (inside t (c .clause)) (c .clause + 1) (stretchEnd t (c .clause)) e (inside-cover t (c .clause) (c .within)) (c .given) in
+      record {
+        clause = c .clause;
+        clause-root = c .nearest-root;
+        given = c .given;
+        place = w .at;
+        in-clause = apart-below t (c .clause) (w .at) (w .apart);
+        place-root = nearest-in t n (c .clause) (w .at) (c .within) (c .inner) (c .nearest-root) (w .apart);
+        is-it = w .it;
+      }
+
+  module _ (src : List ℕ) where
+    -- no alias is pending
+    none-pends : (p : Pending) (e : NameBinding) → List·Memᴰ e (handOn aliases p) → ⊥
+    unfolding handOn
+    none-pends Nothing e m = List·Memᴰ·not-nil m
+    none-pends (Held r) e m = List·Memᴰ·not-nil m
+
+    alias-listed : (p : Pending) (b : Bound) (e : NameBinding) → List·Memᴰ e (listAlias aliases p b) → b ≡ Named e
+    unfolding listAlias
+    alias-listed Nothing b e m = in-none m
+    alias-listed (Held r) Unnamed e m = in-none m
+    alias-listed (Held r) (Named x) e m = ap Named (sym (List·Memᴰ·eq-of-singleton m))
+
+    in-aliases : (k : ℕ) (f : Forest) (lo hi : ℕ) (e : NameBinding) → Cover t lo hi f → List·Memᴰ e (ownTables aliases src k f) → Met (aliasAt src) lo hi e
+    unfolding ownTables
+    in-aliases k f lo hi e w m = go (eqb k fromClause || eqb k joinClause) m
+      where
+        go : (b : Bool) → List·Memᴰ e (cond b (tableReading aliases src Nothing f) []) → Met (aliasAt src) lo hi e
+        go true n =
+            ⊎-elim absurd (λ x. x)
+            (in-reading aliases src (λ p x. ⊥) (aliasAt src) none-pends (λ p b x i. i) (λ x i. i) (λ r g x q i. absurd i)
+            (λ p r g x q i. (q, alias-listed p (aliasIn src r g) x i)) f Nothing lo hi e w n)
+        go false n = in-none n
+
+    -- a reference is pending under its number
+    Waits : Pending → TableRef → Type 0
+    Waits Nothing e = ⊥
+    Waits (Held r) e = r .«record» ≡ e .«record»
+
+    handed : (p : Pending) (e : TableRef) → List·Memᴰ e (handOn references p) → Waits p e
+    unfolding handOn Waits
+    handed Nothing e m = List·Memᴰ·not-nil m
+    handed (Held r) e m = ap (λ (x : TableRef). x .«record») (sym (List·Memᴰ·eq-of-singleton m))
+
+    kept : (p : Pending) (b : Bound) (e : TableRef) → Waits (aliased p b) e → Waits p e
+    unfolding aliased Waits
+    kept Nothing b e w = w
+    kept (Held r) Unnamed e w = w
+    kept (Held r) (Named x) e w = w
+
+    idles : (e : TableRef) → Waits Nothing e → ⊥
+    unfolding Waits
+    idles e w = w
+
+    started : (i : ℕ) (parts : List Rec) (e : TableRef) → Waits (fresh i parts) e → i ≡ e .«record»
+    unfolding fresh Waits
+    started i [] e w = absurd w
+    started i (a ∷ []) e w = w
+    started i (a ∷ b ∷ []) e w = w
+    started i (a ∷ b ∷ c ∷ more) e w = absurd w
+
+    none-listed : {A : Type 0} (p : Pending) (b : Bound) (e : TableRef) → List·Memᴰ e (listAlias references p b) → A
+    unfolding listAlias
+    none-listed Nothing b e m = in-none m
+    none-listed (Held r) Unnamed e m = in-none m
+    none-listed (Held r) (Named x) e m = in-none m
+
+    in-references : (k : ℕ) (f : Forest) (lo hi : ℕ) (e : TableRef) → Cover t lo hi f → List·Memᴰ e (ownTables references src k f) → Met referenceAt lo hi e
+    unfolding ownTables
+    in-references k f lo hi e w m = go (eqb k fromClause || eqb k joinClause) m
+      where
+        go : (b : Bool) → List·Memᴰ e (cond b (tableReading references src Nothing f) []) → Met referenceAt lo hi e
+        go true n =
+            ⊎-elim (λ i. absurd (idles e i)) (λ x. x)
+            (in-reading references src Waits referenceAt handed kept idles (λ r g x q i. (q, started (r .index) (direct isPart g) x i))
+            (λ p r g x q i. none-listed p (aliasIn src r g) x i) f Nothing lo hi e w n)
+        go false n = in-none n
+
+    in-columns : (k : ℕ) (f : Forest) (lo hi : ℕ) (e : NameBinding) → Cover t lo hi f → List·Memᴰ e (ownColumns src k f) → Met (columnAt src) lo hi e
+    unfolding ownColumns
+    in-columns k f lo hi e w m = go (eqb k selectClause) m
+      where
+        go : (b : Bool) → List·Memᴰ e (cond b (boundIn columnAlias (λ x. eqb x columnList || eqb x expressionList) (aliasIn src) f) []) → Met (columnAt src) lo hi e
+        go true n = in-bound columnAlias (λ x. eqb x columnList || eqb x expressionList) (aliasIn src) refl refl f lo hi e w n
+        go false n = in-none n
+
+    in-with : (k : ℕ) (f : Forest) (lo hi : ℕ) (e : NameBinding) → Cover t lo hi f → List·Memᴰ e (ownWith src k f) → Met (itemAt src) lo hi e
+    unfolding ownWith
+    in-with k f lo hi e w m = go (eqb k withClause) m
+      where
+        go : (b : Bool) → List·Memᴰ e (cond b (boundIn withExpressionItem (λ x. eqb x columnList) (withItem src) f) []) → Met (itemAt src) lo hi e
+        go true n = in-bound withExpressionItem (λ x. eqb x columnList) (withItem src) refl refl f lo hi e w n
+        go false n = in-none n
+
+    module _ (n : ℕ) (h : n < count t) where
+      pub table-alias-of : (e : NameBinding) → List·Memᴰ e (tableAliases src t n) → TableAliasOf src t n e
+      table-alias-of e = entry-of (ownTables aliases src) (aliasAt src) in-aliases n e h
+
+      pub column-alias-of : (e : NameBinding) → List·Memᴰ e (columnAliases src t n) → ColumnAliasOf src t n e
+      column-alias-of e = entry-of (ownColumns src) (columnAt src) in-columns n e h
+
+      pub table-ref-of : (e : TableRef) → List·Memᴰ e (tableRefs src t n) → TableRefOf src t n e
+      table-ref-of e = entry-of (ownTables references src) referenceAt in-references n e h
+
+      pub with-name-of : (e : NameBinding) → List·Memᴰ e (withNames src t n) → WithNameOf src t n e
+      with-name-of e = entry-of (ownWith src) (itemAt src) in-with n e h
