@@ -13,6 +13,7 @@ use Rattle.tables.specs.Tables.{referenceRow}
 use Rattle.scope.specs.Scope.{withNames}
 use Rattle.offers.proofs.OfferLaws.{root-within}
 use Rattle.roots.specs.Nearest.{WithNamesFrom}
+use Rattle.roots.proofs.Covers.{one-root}
 use Rattle.roots.proofs.DeepestQuery.{deepest-query}
 use Rattle.roots.proofs.Nearest.{table-alias-of, column-alias-of, table-ref-of}
 use Rattle.roots.proofs.SeenRoots.{with-names-from}
@@ -36,6 +37,7 @@ spring a ok =
       table-aliases = says-only bindingRow _ _ (table-alias-of (a .table) (a .source) n h);
       column-aliases = says-only bindingRow _ _ (column-alias-of (a .table) (a .source) n h);
       table-refs = says-only referenceRow _ _ (table-ref-of (a .table) (a .source) n h);
+      one-root = one-root (a .table);
       with-names = says-only bindingRow _ _ (w .each);
       more = map bindingRow (w .more);
       own-first = ap (list bindingRow) (w .own-first) ∙ ap rows (map-append bindingRow (withNames (a .source) (a .table) n) (w .more));

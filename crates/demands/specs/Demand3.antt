@@ -1,7 +1,7 @@
 -- Demand 3: over all roots' reference lists together, a table name of one or two parts appears only under its nearest root above, once for
 -- each FROM or JOIN that reaches it, and nothing else appears; so the lists' total is that count summed over the tree.
 -- `Served` is every way in which the reference question can be asked at all roots of a table, and `AllRoots` says the demand of its
--- replies and bytes (scope/specs/AllRoots.antt; its words are in scope/specs/Reach.antt).
+-- replies and bytes (roots/specs/AllRoots.antt; its words are in roots/specs/Reach.antt).
 -- Definitions only; the theorem is `demand-3` in proofs/Demand3.antt.
 use Prim.Native.Nat.{ℕ}
 use mathlib.Core.Path.{_≡_}

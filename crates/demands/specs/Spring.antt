@@ -21,7 +21,7 @@ use Rattle.names.specs.Bindings.{bindingRow}
 use Rattle.scope.specs.Collection.{nodeGives, collected, collection, ownWith, ownTables}
 use Rattle.tables.specs.Tables.{fresh, aliased, handOn, listAlias, tableReading, referenceRow}
 use Rattle.scope.specs.Scope.{withNames}
-use Rattle.roots.specs.Nearest.{DeepestQuery, TableAliasOf, ColumnAliasOf, TableRefOf, OwnOrSeen}
+use Rattle.roots.specs.Nearest.{OneRoot, DeepestQuery, TableAliasOf, ColumnAliasOf, TableRefOf, OwnOrSeen}
 use Rattle.statement.specs.Statement.{orElse, firstFind, enclosingAt}
 use Rattle.path.specs.Path.{isSubquery, deepestOr, onPath, nextOf}
 use Rattle.tokens.specs.LastToken.{lastOr, init, lastTwo, isText, dotted}
@@ -62,7 +62,9 @@ pub record Spring (a : Asked) : Type 0 where
   pub table-aliases : SaysOnly bindingRow (TableAliasOf (a .source) (a .table) (rootOfCursor a)) (matter TableAliasesAt a .said)
   pub column-aliases : SaysOnly bindingRow (ColumnAliasOf (a .source) (a .table) (rootOfCursor a)) (matter ColumnAliasesAt a .said)
   pub table-refs : SaysOnly referenceRow (TableRefOf (a .source) (a .table) (rootOfCursor a)) (matter TableRefsAt a .said)
-  -- so does each WITH name; or its nearest root is one around the cursor's, and neither its item nor one before it in its clause holds the cursor's query
+  -- and nothing has another query's root, around or inside, for its nearest root too: so nothing of another query is among them
+  pub one-root : OneRoot (a .table)
+  -- each WITH name stands so too; or its nearest root is one around the cursor's, and neither its item nor one before it in its clause holds the cursor's query
   pub with-names : SaysOnly bindingRow (OwnOrSeen (a .source) (a .table) (rootOfCursor a)) (matter WithNamesAt a .said)
   -- the root's own WITH names come first, and alone where the root is no subquery
   pub more : List (List ℕ)

@@ -1,13 +1,14 @@
 -- What stands below a record, against the table's numbers: of a node's children every record that is at or above one of them is that one.
---     at-below, at-below-known, below, below-known    the two tests on records, and what they say
---     at-below-then                                   one after the other
---     inside-cover                                    of the children of every record
---     Apart, apart-here, apart-in, apart-below        a record of siblings that no kind 30 is at or above, among them
---     nearest-self, nearest-below, nearest-in         whose nearest root is known then
+--     stands-below, stands-below-known            the two tests on records, and what they say
+--     at-below, at-below-known, at-below-then
+--     inside-cover                                of the children of every record
+--     Apart, apart-here, apart-in, apart-below    a record of siblings that no kind 30 is at or above, among them
+--     nearest-self, nearest-below, nearest-in     whose nearest root is known then
+--     one-root                                    and is no other
 -- Assumes nothing.
 use Prim.Native.Nat.{ℕ, zero, suc, _+_, _-_, _≤_, _<_}
 use mathlib.Core.Path.{_≡_, refl, sym, ap, _∙_}
-use mathlib.Core.Bool.{Bool, true, false, _&&_}
+use mathlib.Core.Bool.{true, false}
 use mathlib.Core.List.{List, [], _∷_}
 use mathlib.Core.Logic.{_⊎_, inl, inr, ⊎-elim}
 use native.Mathlib.Nat.{zero-add}
@@ -18,24 +19,21 @@ use Rattle.table.specs.declared.record.Rec.{Rec}
 use Rattle.table.specs.Table.{count, depthAt, kindAt, recordAt, run, from}
 use Rattle.table.specs.Forest.{Forest, nil, token, node, level, kids, extent, stretchEnd, inside}
 use Rattle.table.proofs.Laws.{lt-or-le, eq-or-not, node-or-token, level-shallow, level-deep, level-token, level-node, extent-deep, extent-stop, from-cons}
+use Rattle.table.proofs.Texts.{both}
+use Rattle.table.proofs.Fields.{kind-of}
 use Rattle.table.proofs.Reaches.{reaches-yes, reaches-no}
 use Rattle.path.specs.Path.{isSubquery}
 use Rattle.offers.specs.Enclosing.{standsBelow}
-use Rattle.roots.specs.Nearest.{atOrBelow, NearestRoot}
-
-both : (a b : Bool) → (a && b) ≡ true → (a ≡ true) × (b ≡ true)
-both true true e = (refl, refl)
-both true false e = (refl, e)
-both false b e = (e, absurd (let z : _≡_ {A = ℕ} 0 1 = cc in omega arith))
+use Rattle.roots.specs.Nearest.{atOrBelow, NearestRoot, OneRoot}
 
 module _ (t : List ℕ) where
   -- ---- the two tests
 
-  pub below : (n x : ℕ) → n < x → x < stretchEnd t n → standsBelow t n x ≡ true
-  below n x a b = rw (lt-ltb n x a, lt-ltb x (stretchEnd t n) b)
+  pub stands-below : (n x : ℕ) → n < x → x < stretchEnd t n → standsBelow t n x ≡ true
+  stands-below n x a b = rw (lt-ltb n x a, lt-ltb x (stretchEnd t n) b)
 
-  pub below-known : (n x : ℕ) → standsBelow t n x ≡ true → (n < x) × (x < stretchEnd t n)
-  below-known n x e =
+  pub stands-below-known : (n x : ℕ) → standsBelow t n x ≡ true → (n < x) × (x < stretchEnd t n)
+  stands-below-known n x e =
       let p = both (ltb n x) (ltb x (stretchEnd t n)) e in
       (ltb-true n x (p .0), ltb-true x (stretchEnd t n) (p .1))
 
@@ -43,7 +41,7 @@ module _ (t : List ℕ) where
   at-below n x a b =
       ⊎-elim
       (λ e. rw (eq-eqb x n e))
-      (λ e. rw (ne-eqb x n e) (below n x (omega arith) b))
+      (λ e. rw (ne-eqb x n e) (stands-below n x (omega arith) b))
       (eq-or-not x n)
 
   pub end-behind : (n : ℕ) → n < stretchEnd t n
@@ -54,7 +52,7 @@ module _ (t : List ℕ) where
   at-below-known n x h =
       ⊎-elim
       (λ (e : x ≡ n). (omega arith, omega (arith, end-behind n)))
-      (λ (e : x ≡ n → ⊥). let p = below-known n x (rw (ne-eqb x n e) at h) in (omega (arith, p .0), p .1))
+      (λ (e : x ≡ n → ⊥). let p = stands-below-known n x (rw (ne-eqb x n e) at h) in (omega (arith, p .0), p .1))
       (eq-or-not x n)
 
   -- what is at or below a record that is at or below another is at or below that one
@@ -189,7 +187,7 @@ module _ (t : List ℕ) where
     pub none : (y : ℕ) → lo ≤ y → y ≤ x → x < stretchEnd t y → isSubquery (kindAt t y) ≡ false
 
   kind-is : {r : Rec} → r ≡ recordAt t 0 (r .index) → kindAt t (r .index) ≡ r .kind
-  kind-is {r} e = sym (ap (λ (q : Rec). q .kind) e ∙ (unfold recordAt in refl))
+  kind-is {r} e = sym (ap (λ (q : Rec). q .kind) e ∙ kind-of t 0 (r .index))
 
   module _ {lo hi : ℕ} {r : Rec} (s : Sibling lo hi r) (k : isSubquery (r .kind) ≡ false) where
     near : isSubquery (kindAt t (r .index)) ≡ false
@@ -221,7 +219,7 @@ module _ (t : List ℕ) where
 
   -- one below a clause stands below it
   pub apart-below : (c x : ℕ) → Apart (c + 1) (stretchEnd t c) x → standsBelow t c x ≡ true
-  apart-below c x w = below c x (omega (arith, w .low)) (omega (arith, w .high, end-behind x))
+  apart-below c x w = stands-below c x (omega (arith, w .low)) (omega (arith, w .high, end-behind x))
 
   -- ---- the nearest root
 
@@ -230,14 +228,14 @@ module _ (t : List ℕ) where
   nearest-self n =
       record {
         below = at-below n n (omega arith) (end-behind n);
-        none-between = λ y a b. absurd (omega (arith, below-known n y a, at-below-known y n b));
+        none-between = λ y a b. absurd (omega (arith, stands-below-known n y a, at-below-known y n b));
       }
 
   pub nearest-below : (n x : ℕ) → Apart (n + 1) (stretchEnd t n) x → NearestRoot t n x
   nearest-below n x w =
       record {
         below = at-below n x (omega (arith, w .low)) (omega (arith, w .high, end-behind x));
-        none-between = λ y a b. let p = at-below-known y x b in w .none y (omega (arith, below-known n y a)) (p .0) (p .1);
+        none-between = λ y a b. let p = at-below-known y x b in w .none y (omega (arith, stands-below-known n y a)) (p .0) (p .1);
       }
 
   -- in a clause of the root n
@@ -252,3 +250,11 @@ module _ (t : List ℕ) where
             (λ (g : y ≤ c). v .none-between y a (at-below y c g (omega (arith, p .1, w .low))))
             (lt-or-le c y);
       }
+
+  -- and not that of a root around it too
+  pub one-root : OneRoot t
+  one-root m n x b k v w =
+      let e : isSubquery (kindAt t n) ≡ false = v .none-between n b (w .below) in
+      let y : true ≡ false = sym k ∙ e in
+      let z : _≡_ {A = ℕ} 0 1 = cc in
+      omega arith

@@ -20,8 +20,8 @@ use Rattle.roots.proofs.Covers.{end-behind, at-below, at-below-then}
 
 module _ (t : List ℕ) where
   -- at or below, as numbers
-  abbrev Holds : ℕ → ℕ → Type 0
-  Holds n x = (n ≤ x) × (x < stretchEnd t n)
+  abbrev Encloses : ℕ → ℕ → Type 0
+  Encloses n x = (n ≤ x) × (x < stretchEnd t n)
 
   -- of a path whose kind 30 nodes so far end in a: the last of them
   record Last (best : Option Rec) (l whole : List Rec) (a : ℕ) : Type 0 where
@@ -29,7 +29,7 @@ module _ (t : List ℕ) where
     found : deepestOr best isSubquery l ≡ some it
     on : List·Memᴰ it whole
     query : isSubquery (it .kind) ≡ true
-    holds : Holds a (it .index)
+    holds : Encloses a (it .index)
 
   later : (best : Option Rec) (c : Rec) (l whole : List Rec) (a : ℕ) → Last (cond (isSubquery (c .kind)) (some c) best) l whole a → Last best (c ∷ l) whole a
   unfolding deepestOr
@@ -39,18 +39,18 @@ module _ (t : List ℕ) where
   unfolding deepestOr
   starts best c l whole a k e w = record { it = w .it; found = rw k (w .found); on = w .on; query = w .query; holds = rw e (w .holds) }
 
-  last : (l : List Rec) (a : Rec) (b d : ℕ) → isSubquery (a .kind) ≡ true → b < count t → Holds (a .index) b → Nested t (b + 1) (stretchEnd t b) d l
+  last : (l : List Rec) (a : Rec) (b d : ℕ) → isSubquery (a .kind) ≡ true → b < count t → Encloses (a .index) b → Nested t (b + 1) (stretchEnd t b) d l
       → Last (some a) l (a ∷ l) (a .index)
   unfolding deepestOr Nested
   last [] a b d k h p n = record { it = a; found = refl; on = List·Memᴰ·head refl; query = k; holds = (omega arith, omega (arith, p .0, p .1)) }
   last (c ∷ l) a b d k h p n =
       let m : c .index < count t = omega (arith, n .1, end-within t 0 0 b h) in
-      let q : Holds (a .index) (c .index) = at-below-then t (a .index) b (c .index) m p (omega (arith, n .0), n .1) in
+      let q : Encloses (a .index) (c .index) = at-below-then t (a .index) b (c .index) m p (omega (arith, n .0), n .1) in
       later (some a) c l (a ∷ c ∷ l) (a .index)
       (go (isSubquery (c .kind)) refl m q
       (λ y. last l c (c .index) (d + 1) y m (omega arith, end-behind t (c .index)) (n .3)) (last l a (c .index) (d + 1) k m q (n .3)))
     where
-      go : (y : Bool) → isSubquery (c .kind) ≡ y → c .index < count t → Holds (a .index) (c .index)
+      go : (y : Bool) → isSubquery (c .kind) ≡ y → c .index < count t → Encloses (a .index) (c .index)
           → (isSubquery (c .kind) ≡ true → Last (some c) l (c ∷ l) (c .index)) → Last (some a) l (a ∷ l) (a .index)
           → Last (cond y (some c) (some a)) l (a ∷ c ∷ l) (a .index)
       go true e m q f g =

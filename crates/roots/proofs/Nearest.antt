@@ -41,8 +41,8 @@ in-entry Unnamed e m = in-none m
 in-entry (Named x) e m = ap Named (sym (List·Memᴰ·eq-of-singleton m))
 
 -- a kind that passes a test which kind 30 does not pass
-pub no-query : (test : ℕ → Bool) (k : ℕ) → test k ≡ true → test subqueryExpression ≡ false → isSubquery k ≡ false
-no-query test k e d =
+pub not-subquery : (test : ℕ → Bool) (k : ℕ) → test k ≡ true → test subqueryExpression ≡ false → isSubquery k ≡ false
+not-subquery test k e d =
     decide k subqueryExpression
     (λ q. absurd (let y : true ≡ false = sym e ∙ ap test q ∙ d in let z : _≡_ {A = ℕ} 0 1 = cc in omega arith))
     (λ q. q)
@@ -146,8 +146,8 @@ module _ (t : List ℕ) where
             → (List·Memᴰ e (boundIn kind isList bind f) → Met binds (r .index + 1) (stretchEnd t (r .index)) e)
             → List·Memᴰ e (cond a (entry (bind r f)) (cond b (boundIn kind isList bind f) [])) → Met binds lo hi e
         go true b p q d n =
-            met-here binds lo hi r f e (w .0) (w .1) (no-query (λ k. eqb k kind) (r .kind) p not-kind) (eqb-true (r .kind) kind p, in-entry (bind r f) e n)
-        go false true p q d n = met-in binds lo hi r e (w .0) (no-query isList (r .kind) q not-list) (d n)
+            met-here binds lo hi r f e (w .0) (w .1) (not-subquery (λ k. eqb k kind) (r .kind) p not-kind) (eqb-true (r .kind) kind p, in-entry (bind r f) e n)
+        go false true p q d n = met-in binds lo hi r e (w .0) (not-subquery isList (r .kind) q not-list) (d n)
         go false false p q d n = in-none n
 
   -- ---- what a table reading lists, where Pends p e says that e is, or is made of, what is pending
@@ -182,18 +182,18 @@ module _ (t : List ℕ) where
             (λ n. inl (hand p e n))
             (λ n.
             ⊎-elim
-            (λ i. inr (met-here is lo hi r f e (w .0) (w .1) (no-query (λ k. eqb k tableIdentifier) (r .kind) x refl) (name-is r f e (eqb-true (r .kind) tableIdentifier x) i)))
+            (λ i. inr (met-here is lo hi r f e (w .0) (w .1) (not-subquery (λ k. eqb k tableIdentifier) (r .kind) x refl) (name-is r f e (eqb-true (r .kind) tableIdentifier x) i)))
             inr
             (on (fresh (r .index) (direct isPart f)) n))
             (List·Memᴰ·append-cases (handOn L p) m)
         go false true c d x y z u down on m =
             ⊎-elim
-            (λ n. inr (met-here is lo hi r f e (w .0) (w .1) (no-query (λ k. eqb k tableAlias) (r .kind) y refl) (alias-is p r f e (eqb-true (r .kind) tableAlias y) n)))
+            (λ n. inr (met-here is lo hi r f e (w .0) (w .1) (not-subquery (λ k. eqb k tableAlias) (r .kind) y refl) (alias-is p r f e (eqb-true (r .kind) tableAlias y) n)))
             (λ n. ⊎-elim (λ i. inl (keep p (aliasIn src r f) e i)) inr (on (aliased p (aliasIn src r f)) n))
             (List·Memᴰ·append-cases (listAlias L p (aliasIn src r f)) m)
         go false false true d x y z u down on m =
             ⊎-elim
-            (λ n. inr (met-in is lo hi r e (w .0) (no-query (λ k. eqb k tableExpression) (r .kind) z refl) (down n)))
+            (λ n. inr (met-in is lo hi r e (w .0) (not-subquery (λ k. eqb k tableExpression) (r .kind) z refl) (down n)))
             (on p)
             (List·Memᴰ·append-cases (read Nothing f) m)
         go false false false true x y z u down on m =
@@ -201,7 +201,7 @@ module _ (t : List ℕ) where
             (λ n. inl (hand p e n))
             (λ n.
             ⊎-elim
-            (λ i. inr (met-in is lo hi r e (w .0) (no-query (λ k. eqb k joinClause) (r .kind) u refl) (down i)))
+            (λ i. inr (met-in is lo hi r e (w .0) (not-subquery (λ k. eqb k joinClause) (r .kind) u refl) (down i)))
             (λ i. ⊎-elim (λ j. absurd (idle e j)) inr (on Nothing i))
             (List·Memᴰ·append-cases (read Nothing f) n))
             (List·Memᴰ·append-cases (handOn L p) m)

@@ -24,8 +24,8 @@ use Rattle.statement.specs.Statement.{isStatement}
 use Rattle.offers.specs.Enclosing.{standsBelow, aboveAmong, above, queries, someQuery, beyond, statementAmong, lastRoot, rootsAmong, enclosingRoots}
 use Rattle.offers.specs.WithNames.{Item, items, itemsBefore, boundBy, ownSeen, seenOf, seenOfAll, offeredIn}
 use Rattle.roots.specs.Nearest.{SeenFrom, WithNamesFrom}
-use Rattle.roots.proofs.Covers.{below, Cover, inside-cover, Apart, apart-here, apart-in, nearest-in}
-use Rattle.roots.proofs.Nearest.{in-none, in-entry, no-query, clause-of, with-name-of}
+use Rattle.roots.proofs.Covers.{stands-below, Cover, inside-cover, Apart, apart-here, apart-in, nearest-in}
+use Rattle.roots.proofs.Nearest.{in-none, in-entry, not-subquery, clause-of, with-name-of}
 
 module _ (t : List ℕ) where
   -- ---- the roots around stand above
@@ -119,13 +119,13 @@ module _ (t : List ℕ) where
       go : (a b : Bool) → eqb (r .kind) withExpressionItem ≡ a → eqb (r .kind) columnList ≡ b
           → (List·Memᴰ i (items f) → Apart t (r .index + 1) (stretchEnd t (r .index)) (i .self .index))
           → List·Memᴰ i (cond a (record { self = r; below = f } ∷ []) (cond b (items f) [])) → Apart t lo hi (i .self .index)
-      go true b p q d m = rw (List·Memᴰ·eq-of-singleton m) (apart-here t (w .0) (no-query (λ k. eqb k withExpressionItem) (r .kind) p refl))
-      go false true p q d m = apart-in t (w .0) (no-query (λ k. eqb k columnList) (r .kind) q refl) (d m)
+      go true b p q d m = rw (List·Memᴰ·eq-of-singleton m) (apart-here t (w .0) (not-subquery (λ k. eqb k withExpressionItem) (r .kind) p refl))
+      go false true p q d m = apart-in t (w .0) (not-subquery (λ k. eqb k columnList) (r .kind) q refl) (d m)
       go false false p q d m = in-none m
 
   module _ (src : List ℕ) (n : ℕ) where
     -- an item that binds e, with those before it: none of them holds n
-    record Bound-by (is : List Item) (e : NameBinding) : Type 0 where
+    record NamedIn (is : List Item) (e : NameBinding) : Type 0 where
       before : List Item
       item : Item
       behind : List Item
@@ -133,13 +133,13 @@ module _ (t : List ℕ) where
       named : withItem src (item .self) (item .below) ≡ Named e
       holds-not : (i : Item) → List·Memᴰ i (before ++ item ∷ []) → standsBelow t (i .self .index) n ≡ false
 
-    bound-before : (is : List Item) (e : NameBinding) → List·Memᴰ e (boundBy src (itemsBefore t n is)) → Bound-by is e
+    bound-before : (is : List Item) (e : NameBinding) → List·Memᴰ e (boundBy src (itemsBefore t n is)) → NamedIn is e
     unfolding itemsBefore boundBy
     bound-before [] e m = in-none m
     bound-before (i ∷ is) e m = go (standsBelow t (i .self .index) n) refl (bound-before is e) m
       where
-        go : (b : Bool) → standsBelow t (i .self .index) n ≡ b → (List·Memᴰ e (boundBy src (itemsBefore t n is)) → Bound-by is e)
-            → List·Memᴰ e (boundBy src (cond b [] (i ∷ itemsBefore t n is))) → Bound-by (i ∷ is) e
+        go : (b : Bool) → standsBelow t (i .self .index) n ≡ b → (List·Memᴰ e (boundBy src (itemsBefore t n is)) → NamedIn is e)
+            → List·Memᴰ e (boundBy src (cond b [] (i ∷ itemsBefore t n is))) → NamedIn (i ∷ is) e
         go true q f m = in-none m
         go false q f m =
             ⊎-elim
@@ -164,11 +164,11 @@ module _ (t : List ℕ) where
             })
             (List·Memᴰ·append-cases (entry (withItem src (i .self) (i .below))) m)
 
-    in-seen : (k : ℕ) (f : Forest) (e : NameBinding) → List·Memᴰ e (ownSeen src t n k f) → (k ≡ withClause) × Bound-by (items f) e
+    in-seen : (k : ℕ) (f : Forest) (e : NameBinding) → List·Memᴰ e (ownSeen src t n k f) → (k ≡ withClause) × NamedIn (items f) e
     unfolding ownSeen
     in-seen k f e m = go (eqb k withClause) refl m
       where
-        go : (b : Bool) → eqb k withClause ≡ b → List·Memᴰ e (cond b (boundBy src (itemsBefore t n (items f))) []) → (k ≡ withClause) × Bound-by (items f) e
+        go : (b : Bool) → eqb k withClause ≡ b → List·Memᴰ e (cond b (boundBy src (itemsBefore t n (items f))) []) → (k ≡ withClause) × NamedIn (items f) e
         go true q m = (eqb-true k withClause q, bound-before (items f) e m)
         go false q m = in-none m
 
@@ -179,7 +179,7 @@ module _ (t : List ℕ) where
         let w = b .1 in
         let p : List·Memᴰ (w .item) (items (inside t (c .clause))) = rw (w .whole) (Memᴰ·append-right (w .before) (List·Memᴰ·head refl)) in
         record {
-          around = below t m n (a .0) (a .1);
+          around = stands-below t m n (a .0) (a .1);
           clause = c .clause;
           clause-kind = b .0;
           clause-root = c .nearest-root;

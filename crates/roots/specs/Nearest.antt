@@ -33,6 +33,10 @@ pub record NearestRoot (t : List ℕ) (n x : ℕ) : Type 0 where
   pub below : atOrBelow t n x ≡ true
   pub none-between : (y : ℕ) → standsBelow t n y ≡ true → atOrBelow t y x ≡ true → isSubquery (kindAt t y) ≡ false
 
+-- no record has both a root and a subquery below that root for its nearest: what belongs to a query around or inside does not belong here
+abbrev pub OneRoot : List ℕ → Type 0
+OneRoot t = (m n x : ℕ) → standsBelow t m n ≡ true → isSubquery (kindAt t n) ≡ true → NearestRoot t m x → NearestRoot t n x → ⊥
+
 -- ---- the deepest subquery on the path
 
 -- a kind 30 node on the path to the offset
@@ -41,7 +45,8 @@ pub record QueryOnPath (t : List ℕ) (o : ℕ) (r : Rec) : Type 0 where
   pub query : isSubquery (r .kind) ≡ true
 
 -- record n is the deepest of them: each is n or has n below it, and where there is one n is one of them.
--- Record 0 is not, and the outermost is not: two records refute each (worked/NearestExamples.antt)
+-- Record 0 is not, of a File with one SubqueryExpression, and the outermost is not, of one SubqueryExpression in another: both are refuted in
+-- worked/NearestExamples.antt, so with such a root this could not be proved
 pub record DeepestQuery (t : List ℕ) (o n : ℕ) : Type 0 where
   pub all-above : (r : Rec) → QueryOnPath t o r → atOrBelow t (r .index) n ≡ true
   pub one-of-them : (r : Rec) → QueryOnPath t o r → (q : Rec) × QueryOnPath t o q × (q .index ≡ n)
