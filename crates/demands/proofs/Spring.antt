@@ -15,7 +15,7 @@ use Rattle.offers.proofs.OfferLaws.{root-within}
 use Rattle.roots.specs.Nearest.{WithNamesFrom}
 use Rattle.roots.proofs.Covers.{one-root}
 use Rattle.roots.proofs.DeepestQuery.{deepest-query}
-use Rattle.roots.proofs.Nearest.{table-alias-of, column-alias-of, table-ref-of}
+use Rattle.roots.proofs.Entries.{table-alias-of, column-alias-of, table-ref-of}
 use Rattle.roots.proofs.SeenRoots.{with-names-from}
 use Rattle.demands.specs.Questions.{Asked, rows, list, matter}
 use Rattle.demands.specs.Spring.{SaysOnly, rootOfCursor, Spring}

@@ -25,7 +25,8 @@ use Rattle.offers.specs.Enclosing.{standsBelow, aboveAmong, above, queries, som
 use Rattle.offers.specs.WithNames.{Item, items, itemsBefore, boundBy, ownSeen, seenOf, seenOfAll, offeredIn}
 use Rattle.roots.specs.Nearest.{SeenFrom, WithNamesFrom}
 use Rattle.roots.proofs.Covers.{stands-below, Cover, inside-cover, Apart, apart-here, apart-in, nearest-in}
-use Rattle.roots.proofs.Nearest.{in-none, in-entry, not-subquery, clause-of, with-name-of}
+use Rattle.roots.proofs.Nearest.{in-none, in-entry, not-subquery, clause-of}
+use Rattle.roots.proofs.Entries.{with-name-of}
 
 module _ (t : List ℕ) where
   -- ---- the roots around stand above

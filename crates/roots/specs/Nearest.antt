@@ -1,6 +1,6 @@
 -- Whose an offered name is: the nearest root of the record that it stands at, said of the table's records.
 -- t is the table's bytes, src the source's, o an offset, n and m the numbers of roots, x and y of records.
--- Definitions only; the theorems are in proofs/Nearest.antt, proofs/DeepestQuery.antt and proofs/SeenRoots.antt.
+-- Definitions only; the theorems are in proofs/DeepestQuery.antt, proofs/Entries.antt and proofs/SeenRoots.antt.
 use Prim.Native.Nat.{ℕ}
 use mathlib.Core.Path.{_≡_}
 use mathlib.Core.Bool.{Bool, true, false, _||_}
