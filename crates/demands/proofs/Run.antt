@@ -3,12 +3,11 @@
 --     one-pick    the words of `Picks` determine it
 --     pressed     and the reply to it is an answer that says so
 -- Assumes nothing.
-use Prim.Native.Nat.{ℕ, zero, suc, _+_, _≤_, _<_}
+use Prim.Native.Nat.{ℕ, zero, suc, _+_, _≤_}
 use mathlib.Core.Path.{_≡_, refl, sym, ap, _∙_}
 use mathlib.Core.Logic.{⊎-elim}
 use mathlib.Core.Bool.{true}
 use mathlib.Core.List.{List, [], _∷_, _++_, List·Memᴰ, List·Memᴰ·head, List·Memᴰ·tail, List·Memᴰ·not-nil, List·Memᴰ·cases-cons, List·Memᴰ·append-cases, Memᴰ·append-left, Memᴰ·append-right}
-use mathlib.Core.Option.{some}
 use native.Mathlib.Omega.{arith}
 use native.Mathlib.Nat.{zero-add}
 use borrow.Author.Tests.{le-leb, lt-leb, leb-true}
@@ -17,7 +16,7 @@ use lib.Dec.{leb}
 use Rattle.table.specs.declared.record.Rec.{Rec}
 use Rattle.table.specs.declared.check.Verdict.the-variants.{Admitted}
 use Rattle.table.specs.Kinds.{lastNode, selectStatement, describeStatement}
-use Rattle.table.specs.Table.{count, kindAt, recordAt, run, from, records}
+use Rattle.table.specs.Table.{kindAt, recordAt, run, from}
 use Rattle.table.specs.Forest.{Forest, nil, token, node}
 use Rattle.table.specs.Rules.{verdict}
 use Rattle.table.specs.Ranges.{holds}
@@ -157,8 +156,8 @@ number-behind b (x ∷ xs) p after q a m = number-behind (x .self .index + 1) xs
 -- ---- what is picked
 
 module _ (t : List ℕ) (n o : ℕ) (w : Tidy t n) where
-  innermost : (p : Place) → Runnable t o p → NoneInside t o p → Innermost o p
-  innermost p r f =
+  to-innermost : (p : Place) → Runnable t o p → NoneInside t o p → Innermost o p
+  to-innermost p r f =
       record {
         candidate = candidate o t p r;
         none-inside = λ q m c. f q m (runnable o t q (inside-nodes [] (treeOf t) p q (r .node) m) c);
@@ -199,7 +198,7 @@ module _ (t : List ℕ) (n o : ℕ) (w : Tidy t n) where
         let m : List·Memᴰ p (f .before ++ f .it ∷ f .after) = rw (f .whole) at (r .node) in
         let a : Ascends 0 (selves (f .before ++ f .it ∷ f .after)) = rw (f .whole) at (nodes-ascend t n w) in
         ⊎-elim
-        (λ i. absurd (f .none-before p i (innermost p r g)))
+        (λ i. absurd (f .none-before p i (to-innermost p r g)))
         (λ i.
         ⊎-elim
         (λ e. omega (arith, f .number, ap placeNumber e))

@@ -1,10 +1,13 @@
 -- Worked cases of the enclosing statement, computed.
 use Prim.Native.Nat.{ℕ}
 use mathlib.Core.Path.{_≡_, refl}
-use mathlib.Core.List.{List, [], _∷_, _++_}
+use mathlib.Core.List.{List, [], _∷_, _++_, map}
+use Rattle.table.specs.declared.record.Rec.{Rec}
 use Rattle.table.specs.Kinds.{file, selectStatement, insertStatement, describeStatement, withClause, subqueryExpression, bareWord}
-use Rattle.table.specs.Table.{word, recordAt, run, from}
+use Rattle.table.specs.Table.{word, recordAt, run, from, records}
 use Rattle.table.specs.Forest.{level, kids}
+use Rattle.table.specs.Descent.{path, pathOf}
+use Rattle.table.specs.Ranges.{holds}
 use Rattle.table.specs.worked.Worked.{rec}
 use Rattle.statement.specs.declared.statement.Enclosing.{Enclosing}
 use Rattle.statement.specs.declared.statement.Enclosing.the-variants.{Outside, Record}
@@ -35,3 +38,27 @@ finds : enclosingAt nested 7
     ≡ Record 3 ∷ Record 3 ∷ Record 7 ∷ Record 1 ∷ Outside ∷ Outside ∷ Outside ∷ Record 2 ∷ []
 unfolding word recordAt run from level kids orElse firstFind enclosingAt
 finds = refl
+
+-- a statement 0..9 with a clause 0..5 that has a subquery 2..5 with no statement, and beside the clause a subquery 5..9 with one
+abbrev parted : List ℕ
+parted =
+    rec file 0 0 9
+    ++ rec selectStatement 1 0 9
+    ++ rec withClause 2 0 5
+    ++ rec subqueryExpression 3 2 5
+    ++ rec subqueryExpression 2 5 9
+    ++ rec selectStatement 3 5 9
+
+-- at 5 the path goes into the clause and ends in its subquery; the search goes on, and gives a statement off the path
+off-path : (map (λ (r : Rec). r .index) (pathOf (holds 5) (records 0 parted)) ≡ 0 ∷ 1 ∷ 2 ∷ 3 ∷ []) × (enclosingAt parted 5 ≡ Record 5)
+unfolding word recordAt run from level kids path pathOf orElse firstFind enclosingAt
+off-path = (refl, refl)
+
+-- two statements side by side, the second from where the first ends
+abbrev beside : List ℕ
+beside = rec file 0 0 12 ++ rec selectStatement 1 0 6 ++ rec insertStatement 1 6 12
+
+-- at 6 both hold the offset, and the first is taken; from 7 on it is the second
+first-of-two : enclosingAt beside 5 ∷ enclosingAt beside 6 ∷ enclosingAt beside 7 ∷ [] ≡ Record 1 ∷ Record 1 ∷ Record 2 ∷ []
+unfolding word recordAt run from level kids orElse firstFind enclosingAt
+first-of-two = refl
