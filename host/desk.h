@@ -44,6 +44,9 @@ extern "C" {
 #define DESK_REFERENCE_BYTES 28 /* record; database start, end; table start, end; alias start, end */
 #define DESK_CONTEXT_BYTES 16   /* context; name start, end; argument index */
 
+/* A node's start or end as far as the source has it: from desk_cut of its start up to desk_cut of its end no span leads outside the source. */
+static inline size_t desk_cut(uint32_t at, size_t source_len) { return at < source_len ? at : source_len; }
+
 #define DESK_REFUSAL(reply) ((uint32_t)(reply))
 #define DESK_ANSWER(reply) ((uint32_t)((uint64_t)(reply) >> 32))
 
@@ -101,7 +104,10 @@ uint64_t desk_table_refs(const uint8_t *table, size_t table_len, const uint8_t *
 /* What is being typed: one entry of DESK_CONTEXT_BYTES. Answer: 1. */
 uint64_t desk_cursor_context(const uint8_t *table, size_t table_len, const uint8_t *source, size_t source_len, uint32_t offset, uint8_t *out, size_t out_len);
 
-/* The statement that encloses the offset. Answer: its record, or DESK_NONE. */
+/* The statement under the offset, to be run with a key. Answer: its record, or DESK_NONE.
+ * A candidate is a statement (kinds 4 to 13) that is not empty and holds the offset, both ends counted, and so do all nodes above it. DESK_NONE is
+ * given exactly if there is no candidate; else the record given is a candidate that has none inside it, and of all such the first on the page: of two side
+ * by side at one offset, the earlier. A node's span may hold any numbers, so take the text by desk_cut. */
 uint64_t desk_enclosing_statement(const uint8_t *table, size_t table_len, const uint8_t *source, size_t source_len, uint32_t offset);
 
 /* The root whose scope is offered: the deepest subquery around the offset, else the statement, else record 0. Answer: its record. */

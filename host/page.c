@@ -71,6 +71,18 @@ static void write_page(int unclosed) {
     end(); end();
 }
 
+/* SELECT 1;SELECT 2: at the offset between the two both hold it, and the first on the page is taken */
+static void write_two(void) {
+    used = 0; source_len = 0; depth = 0;
+    begin(FILE_NODE);
+    for (int i = 1; i <= 2; i++) {
+        begin(SELECT_STATEMENT); begin(SELECT); word("SELECT"); token(133, i == 1 ? "1" : "2"); end();
+        if (i == 1) token(OTHER_TOKEN, ";");
+        end();
+    }
+    end();
+}
+
 /* ---- the desk */
 static uint8_t out[32 * RECORDS];
 #define PAGE table, used, (const uint8_t *)source, source_len
@@ -105,6 +117,20 @@ static void show_references(uint64_t reply) {
         printf(", database "); text(7 * i + 1);
         printf(", alias "); text(7 * i + 5); printf("\n");
     }
+}
+
+static uint32_t recorded(uint32_t i, int which) {
+    const uint8_t *at = table + 16 * (size_t)i + 4 * which;
+    return at[0] | at[1] << 8 | at[2] << 16 | (uint32_t)at[3] << 24;
+}
+
+/* The statement that a key would run, as far as the source has it. */
+static void show_run(uint32_t at) {
+    uint64_t reply = desk_enclosing_statement(PAGE, at);
+    if (!answered(reply)) return;
+    if (DESK_ANSWER(reply) == DESK_NONE) { printf("at %u there is nothing to run\n", (unsigned)at); return; }
+    size_t from = desk_cut(recorded(DESK_ANSWER(reply), 2), source_len), to = desk_cut(recorded(DESK_ANSWER(reply), 3), source_len);
+    printf("at %u the key runs: %.*s\n", (unsigned)at, (int)(from < to ? to - from : 0), source + from);
 }
 
 static void show_cursor(uint32_t at) {
@@ -152,5 +178,14 @@ int main(void) {
 
     number(3 * 16, 99);
     show_cursor(cursor);
+
+    write_page(0);
+    show_run(cursor);
+    show_run(source_len);
+    write_two();
+    for (uint32_t at = 8; at <= 10; at++) show_run(at);
+    number(1 * 16 + 12, DESK_NONE); /* a span past the source: its text is cut */
+    show_run(3);
+    show_run(source_len + 1);
     return 0;
 }
