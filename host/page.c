@@ -3,7 +3,7 @@
 #include <stdio.h>
 #include <string.h>
 
-enum { RECORDS = 256, FILE_NODE = 1, SELECT_STATEMENT = 4, WITH = 14, SELECT = 15, FROM = 16, WITH_ITEM = 29, SUBQUERY = 30, TABLE_NAME = 33,
+enum { RECORDS = 256, FILE_NODE = 1, SELECT_STATEMENT = 4, LAST_STATEMENT = 13, WITH = 14, SELECT = 15, FROM = 16, WITH_ITEM = 29, SUBQUERY = 30, TABLE_NAME = 33,
     TABLE_ALIAS = 35, COLUMN_ALIAS = 36, COLUMN = 47, SPACE = 129, WORD = 131, COMMA = 136, ROUND = 137, ROUND_END = 140, OTHER_TOKEN = 128 };
 
 /* ---- the page: a parser would make it */
@@ -131,6 +131,9 @@ static void show_run(uint32_t at) {
     if (DESK_ANSWER(reply) == DESK_NONE) { printf("at %u there is nothing to run\n", (unsigned)at); return; }
     size_t from = desk_cut(recorded(DESK_ANSWER(reply), 2), source_len), to = desk_cut(recorded(DESK_ANSWER(reply), 3), source_len);
     printf("at %u the key runs: %.*s\n", (unsigned)at, (int)(from < to ? to - from : 0), source + from);
+    for (uint32_t i = DESK_ANSWER(reply) + 1; i < used / 16; i++)
+        if (recorded(i, 0) >= SELECT_STATEMENT && recorded(i, 0) <= LAST_STATEMENT && recorded(i, 2) <= at && at <= recorded(i, 3))
+            printf("  record %u holds %u too: of two side by side the first on the page is taken\n", (unsigned)i, (unsigned)at);
 }
 
 static void show_cursor(uint32_t at) {
