@@ -10,8 +10,8 @@ void *memset(void *to, int with, size_t count) {
 /* `( [ )`: both openers are left, the second is the one that "expected ]" speaks of, and a File that has no statement is typed at its start. */
 static int wrong(void) {
     static const uint8_t table[] = {
-        1, 0, 0, 0, 0, 0, 0, 0, 0, 0, 0, 0, 5, 0, 0, 0, 137, 0, 0, 0, 1, 0, 0, 0, 0, 0, 0, 0, 1, 0, 0, 0,
-        138, 0, 0, 0, 1, 0, 0, 0, 2, 0, 0, 0, 3, 0, 0, 0, 140, 0, 0, 0, 1, 0, 0, 0, 4, 0, 0, 0, 5, 0, 0, 0};
+        1, 0, 0, 0, 0, 0, 0, 0, 0, 0, 0, 0, 5, 0, 0, 0, 0, 0, 0, 0, 137, 0, 0, 0, 1, 0, 0, 0, 0, 0, 0, 0, 1, 0, 0, 0, 0, 0, 0, 0,
+        138, 0, 0, 0, 1, 0, 0, 0, 2, 0, 0, 0, 3, 0, 0, 0, 0, 0, 0, 0, 140, 0, 0, 0, 1, 0, 0, 0, 4, 0, 0, 0, 5, 0, 0, 0, 0, 0, 0, 0};
     static const uint8_t source[] = "( [ )", message[] = "expected ]";
     static uint8_t out[2 * DESK_OPENER_BYTES];
     uint64_t left = desk_openers_left(table, sizeof table, source, 5, out, sizeof out);

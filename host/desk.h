@@ -3,21 +3,23 @@
  * A slice is a pointer and a length in bytes; with length 0 the pointer may be null. No call needs a check before it, keeps a pointer,
  * allocates, or writes outside `out`. `out` must not overlap the other slices.
  *
- * The table: sixteen bytes a record, four little-endian numbers of 32 bits: kind, depth, start, end. Records stand in document order, a node
- * before its children. The source: the bytes that the spans speak of. An offset may be any number.
+ * The table: DESK_RECORD_BYTES a record, five little-endian numbers of 32 bits: kind, depth, start, end, parent. Records stand in document order, a
+ * node before its children. The parent is the number of the nearest earlier record whose depth is one less; record 0 carries 0.
+ * The source: the bytes that the spans speak of. An offset may be any number.
  *
  * A reply is one number, of two halves. Low half: 0, or the number of the refusal. High half: the answer, or the refusal's detail.
  * A refused call leaves every byte of `out` as it was. Refusals, the first in this order that applies:
- *   1  table length 0, not a multiple of 16, or over DESK_RECORDS_MAX records             detail 0
- *   2  source over DESK_SOURCE_MAX bytes, or message over DESK_MESSAGE_MAX                detail 0
+ *   1  table length 0, not a multiple of DESK_RECORD_BYTES, or over DESK_RECORDS_MAX records   detail 0
+ *   2  source over DESK_SOURCE_MAX bytes, or message over DESK_MESSAGE_MAX                     detail 0
  *   then record by record, the detail being the record:
  *   3  kind not listed
  *   4  record 0 not a node of depth 0; or a later depth is 0, is over the previous depth plus 1, or is over that of a token just before
  *   5  depth over DESK_DEPTH_MAX
+ *   12 a parent that is not the record's
  *   6  a token with start > end, end past the source, or start before the previous token's end
  *   then:
- *   8  the root is no node of the table                                                   detail 0
- *   7  the list needs more bytes than `out` has                                           detail: the entries needed
+ *   8  the root is no node of the table; or the record is not in it                            detail 0
+ *   7  the list needs more bytes than `out` has                                                detail: the entries needed
  */
 #ifndef DESK_H
 #define DESK_H
@@ -29,6 +31,16 @@
 extern "C" {
 #endif
 
+/* The layout of records and entries that this header speaks of. Every file that includes it asks the archive for this one by name, so that a host
+ * and an archive of two layouts do not link. Answer: the layout's number. */
+#define DESK_LAYOUT 2
+uint64_t desk_layout_2(void);
+#if defined(__GNUC__)
+__attribute__((used))
+#endif
+static uint64_t (*const desk_layout)(void) = desk_layout_2;
+
+#define DESK_RECORD_BYTES 20    /* kind, depth, start, end, parent */
 #define DESK_RECORDS_MAX 4096
 #define DESK_DEPTH_MAX 63
 #define DESK_SOURCE_MAX 65536
@@ -43,6 +55,7 @@ extern "C" {
 #define DESK_BINDING_BYTES 24   /* token start, end; name start, end; definition start, end */
 #define DESK_REFERENCE_BYTES 28 /* record; database start, end; table start, end; alias start, end */
 #define DESK_CONTEXT_BYTES 16   /* context; name start, end; argument index */
+#define DESK_ABOVE_BYTES 4      /* record */
 
 /* A node's start or end as far as the source has it: from desk_cut of its start up to desk_cut of its end no span leads outside the source. */
 static inline size_t desk_cut(uint32_t at, size_t source_len) { return at < source_len ? at : source_len; }
@@ -69,6 +82,8 @@ enum desk_context {
     DESK_STATEMENT_START,
     DESK_UNKNOWN
 };
+
+/* In what follows, refusals 1 to 6 are those of the table and the source: 1, 2, then 3, 4, 5, 12 and 6. */
 
 /* Is the table admitted? Answer: 0. Refusals 1 to 6. */
 uint64_t desk_check(const uint8_t *table, size_t table_len, const uint8_t *source, size_t source_len);
@@ -98,6 +113,11 @@ uint64_t desk_column_aliases(const uint8_t *table, size_t table_len, const uint8
 /* The tables that FROM and JOIN name: entries of DESK_REFERENCE_BYTES. A table is listed once for each FROM or JOIN
  * that reaches it: `FROM a JOIN b` gives a, b, b. */
 uint64_t desk_table_refs(const uint8_t *table, size_t table_len, const uint8_t *source, size_t source_len, uint32_t root, uint8_t *out, size_t out_len);
+
+/* ---- upward. Answer: the entries written. Refusals 1 to 6, then 8, then 7 */
+
+/* The records above a record, which may be a node or a token: its parent, then that one's, up to record 0. As many as it is deep: entries of DESK_ABOVE_BYTES. */
+uint64_t desk_records_above(const uint8_t *table, size_t table_len, const uint8_t *source, size_t source_len, uint32_t record, uint8_t *out, size_t out_len);
 
 /* ---- at a cursor. Refusals 1 to 6, then 7 where there is a list */
 

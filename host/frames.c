@@ -6,9 +6,9 @@
 #include <string.h>
 #include "desk.h"
 
-enum { SOURCE = 4096, RECORDS = 1024, RECORD_BYTES = 16, ROOM = 16384, TEXT = 1 << 18 };
+enum { SOURCE = 4096, RECORDS = 1024, ROOM = 16384, TEXT = 1 << 18 };
 
-static uint8_t table[RECORDS * RECORD_BYTES], source[SOURCE], out[ROOM];
+static uint8_t table[RECORDS * DESK_RECORD_BYTES], source[SOURCE], out[ROOM];
 static size_t table_len, source_len;
 static char text[TEXT];
 static size_t text_len;
@@ -57,11 +57,12 @@ static uint32_t read_frame(const char *at, const char *end) {
     source_len = table_len = 0;
     for (; *at != '\n'; at += 2) source[source_len++] = (uint8_t)digits(at, 2);
     uint32_t offset = digits(++at, 8);
-    for (at += 9; at < end; at += 21, table_len += RECORD_BYTES) {
+    for (at += 9; at < end; at += 29, table_len += DESK_RECORD_BYTES) {
         put(table + table_len, digits(at, 2));
         put(table + table_len + 4, digits(at + 2, 2));
         put(table + table_len + 8, digits(at + 4, 8));
         put(table + table_len + 12, digits(at + 12, 8));
+        put(table + table_len + 16, digits(at + 20, 8));
     }
     return offset;
 }

@@ -9,7 +9,7 @@ enum { RECORDS = 256, FILE_NODE = 1, SELECT_STATEMENT = 4, LAST_STATEMENT = 13, 
 /* ---- the page: a parser would make it */
 static char source[1024];
 static uint32_t source_len, cursor;
-static uint8_t table[16 * RECORDS];
+static uint8_t table[DESK_RECORD_BYTES * RECORDS];
 static size_t used, open_nodes[DESK_DEPTH_MAX + 1];
 static uint32_t depth;
 
@@ -19,12 +19,13 @@ static void number(size_t at, uint32_t v) {
 
 static void record(uint32_t kind, uint32_t start, uint32_t end) {
     number(used, kind); number(used + 4, depth); number(used + 8, start); number(used + 12, end);
-    used += 16;
+    number(used + 16, depth ? (uint32_t)(open_nodes[depth - 1] / DESK_RECORD_BYTES) : 0);
+    used += DESK_RECORD_BYTES;
 }
 
 static void begin(uint32_t kind) {
     record(kind, source_len, source_len);
-    open_nodes[depth++] = used - 16;
+    open_nodes[depth++] = used - DESK_RECORD_BYTES;
 }
 
 static void end(void) { number(open_nodes[--depth] + 12, source_len); }
@@ -96,7 +97,7 @@ static void text(size_t i) {
 }
 
 static const char *const refusals[] = {"", "no table of whole records, or too long", "source or message too long", "a kind that is not listed",
-    "a depth that fits nowhere", "too deep", "a token that is not where tokens stand", "more entries than the buffer has room for", "no such root"};
+    "a depth that fits nowhere", "too deep", "a token that is not where tokens stand", "more entries than the buffer has room for", "no such root or record", "", "", "", "another parent than the record's"};
 
 /* Is it answered? Else it says why not. */
 static int answered(uint64_t reply) {
@@ -120,7 +121,7 @@ static void show_references(uint64_t reply) {
 }
 
 static uint32_t recorded(uint32_t i, int which) {
-    const uint8_t *at = table + 16 * (size_t)i + 4 * which;
+    const uint8_t *at = table + DESK_RECORD_BYTES * (size_t)i + 4 * which;
     return at[0] | at[1] << 8 | at[2] << 16 | (uint32_t)at[3] << 24;
 }
 
@@ -131,7 +132,7 @@ static void show_run(uint32_t at) {
     if (DESK_ANSWER(reply) == DESK_NONE) { printf("at %u there is nothing to run\n", (unsigned)at); return; }
     size_t from = desk_cut(recorded(DESK_ANSWER(reply), 2), source_len), to = desk_cut(recorded(DESK_ANSWER(reply), 3), source_len);
     printf("at %u the key runs: %.*s\n", (unsigned)at, (int)(from < to ? to - from : 0), source + from);
-    for (uint32_t i = DESK_ANSWER(reply) + 1; i < used / 16; i++)
+    for (uint32_t i = DESK_ANSWER(reply) + 1; i < used / DESK_RECORD_BYTES; i++)
         if (recorded(i, 0) >= SELECT_STATEMENT && recorded(i, 0) <= LAST_STATEMENT && recorded(i, 2) <= at && at <= recorded(i, 3))
             printf("  record %u holds %u too: of two side by side the first on the page is taken\n", (unsigned)i, (unsigned)at);
 }
@@ -154,6 +155,20 @@ static void show_cursor(uint32_t at) {
     show_references(desk_table_refs_at(PAGE, at, out, sizeof out));
 }
 
+/* What stands above the token that holds an offset, nearest first. */
+static void show_above(uint32_t at) {
+    uint32_t i = 0;
+    while (i + 1 < used / DESK_RECORD_BYTES && !(recorded(i, 0) >= OTHER_TOKEN && at < recorded(i, 3))) i++;
+    uint64_t reply = desk_records_above(PAGE, i, out, sizeof out);
+    if (!answered(reply)) return;
+    printf("above '%.*s':", (int)(recorded(i, 3) - recorded(i, 2)), source + recorded(i, 2));
+    for (size_t k = 0; k < DESK_ANSWER(reply); k++) {
+        size_t from = desk_cut(recorded(field(k), 2), source_len), to = desk_cut(recorded(field(k), 3), source_len);
+        printf(" [%.*s]", (int)(from < to ? to - from : 0), source + from);
+    }
+    printf("\n");
+}
+
 int main(void) {
     static const char *const classes[] = {"keyword", "function", "string", "number", "comment", "operator", "variable", "type", "parameter", "property"};
     write_page(0);
@@ -161,6 +176,7 @@ int main(void) {
     if (!answered(desk_check(PAGE))) return 1;
     show_cursor(cursor);
     show_cursor(source_len);
+    show_above(cursor - 2);
     printf("the names of the whole page:\n");
     show_bindings("with", desk_with_names(PAGE, 0, out, sizeof out));
     show_bindings("alias", desk_table_aliases(PAGE, 0, out, sizeof out));
@@ -179,7 +195,10 @@ int main(void) {
     if (!answered(reply) || !answered(hint)) return 1;
     printf("unclosed: %u, the message speaks of record %u\n", (unsigned)DESK_ANSWER(reply), (unsigned)DESK_ANSWER(hint));
 
-    number(3 * 16, 99);
+    number(3 * DESK_RECORD_BYTES, 99);
+    show_cursor(cursor);
+    write_page(0);
+    number(3 * DESK_RECORD_BYTES + 16, 1);
     show_cursor(cursor);
 
     write_page(0);
@@ -187,7 +206,7 @@ int main(void) {
     show_run(source_len);
     write_two();
     for (uint32_t at = 8; at <= 10; at++) show_run(at);
-    number(1 * 16 + 12, DESK_NONE); /* a span past the source: its text is cut */
+    number(1 * DESK_RECORD_BYTES + 12, DESK_NONE); /* a span past the source: its text is cut */
     show_run(3);
     show_run(source_len + 1);
     return 0;

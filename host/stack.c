@@ -7,12 +7,14 @@
 
 enum { STACK = 1 << 20, PAINT = 0xa5 };
 static _Alignas(4096) uint8_t stack[STACK];
-static uint8_t table[16 * DESK_RECORDS_MAX], source[DESK_SOURCE_MAX], out[32 * DESK_CLASS_BYTES * DESK_RECORDS_MAX];
+static uint8_t table[DESK_RECORD_BYTES * DESK_RECORDS_MAX], source[DESK_SOURCE_MAX], out[32 * DESK_CLASS_BYTES * DESK_RECORDS_MAX];
 static size_t used;
 
 static void record(uint32_t kind, uint32_t depth, uint32_t start, uint32_t end) {
-    uint32_t fields[4] = {kind, depth, start, end};
-    for (int i = 0; i < 16; i++) table[used++] = (uint8_t)(fields[i / 4] >> 8 * (i % 4));
+    static uint32_t last[DESK_DEPTH_MAX + 1]; /* of each depth, the last record */
+    uint32_t fields[5] = {kind, depth, start, end, depth ? last[depth - 1] : 0};
+    last[depth] = (uint32_t)(used / DESK_RECORD_BYTES);
+    for (int i = 0; i < DESK_RECORD_BYTES; i++) table[used++] = (uint8_t)(fields[i / 4] >> 8 * (i % 4));
 }
 
 /* A clause, then chains of one kind down to a token at depth 63, as often as there is room. */
@@ -30,7 +32,7 @@ typedef uint64_t of_offset(const uint8_t *, size_t, const uint8_t *, size_t, uin
 static const struct { const char *name; of_root *list; of_page *page; of_offset *record; } questions[] = {
     {"(the thread alone)", 0, 0, 0}, {"desk_token_classes", 0, desk_token_classes, 0}, {"desk_openers_left", 0, desk_openers_left, 0},
     {"desk_with_names", desk_with_names, 0, 0}, {"desk_table_aliases", desk_table_aliases, 0, 0}, {"desk_column_aliases", desk_column_aliases, 0, 0},
-    {"desk_table_refs", desk_table_refs, 0, 0}, {"desk_cursor_context", desk_cursor_context, 0, 0},
+    {"desk_table_refs", desk_table_refs, 0, 0}, {"desk_records_above", desk_records_above, 0, 0}, {"desk_cursor_context", desk_cursor_context, 0, 0},
     {"desk_enclosing_statement", 0, 0, desk_enclosing_statement}, {"desk_cursor_root", 0, 0, desk_cursor_root},
     {"desk_with_names_at", desk_with_names_at, 0, 0}, {"desk_table_aliases_at", desk_table_aliases_at, 0, 0},
     {"desk_column_aliases_at", desk_column_aliases_at, 0, 0}, {"desk_table_refs_at", desk_table_refs_at, 0, 0},
@@ -40,7 +42,7 @@ static size_t asked;
 
 static void *ask(void *unused) {
     (void)unused;
-    if (questions[asked].list) questions[asked].list(table, used, source, sizeof source, 0, out, sizeof out);
+    if (questions[asked].list) questions[asked].list(table, used, source, sizeof source, questions[asked].list == desk_records_above ? DESK_RECORDS_MAX - 1 : 0, out, sizeof out);
     else if (questions[asked].page) questions[asked].page(table, used, source, sizeof source, out, sizeof out);
     else if (questions[asked].record) questions[asked].record(table, used, source, sizeof source, 0);
     else if (!strcmp(questions[asked].name, "desk_check")) desk_check(table, used, source, sizeof source);

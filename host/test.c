@@ -3,7 +3,7 @@
 #include <stdio.h>
 #include <string.h>
 
-static uint8_t table[16 * (DESK_RECORDS_MAX + 1)];
+static uint8_t table[DESK_RECORD_BYTES * (DESK_RECORDS_MAX + 1)];
 static size_t used;
 static uint8_t source[DESK_SOURCE_MAX + 1], message[DESK_MESSAGE_MAX + 1];
 static size_t source_len;
@@ -14,10 +14,15 @@ static void number(uint8_t *at, uint32_t v) {
 }
 
 static void record(uint32_t kind, uint32_t depth, uint32_t start, uint32_t end) {
-    uint32_t fields[4] = {kind, depth, start, end};
-    for (int i = 0; i < 4; i++) number(table + used + 4 * i, fields[i]);
-    used += 16;
+    static uint32_t last[DESK_DEPTH_MAX + 2]; /* of each depth, the last record */
+    uint32_t fields[5] = {kind, depth, start, end, depth ? last[depth - 1] : 0};
+    last[depth] = (uint32_t)(used / DESK_RECORD_BYTES);
+    for (int i = 0; i < 5; i++) number(table + used + 4 * i, fields[i]);
+    used += DESK_RECORD_BYTES;
 }
+
+/* the place of a number of record i: 0 kind, 1 depth, 2 start, 3 end, 4 parent */
+static uint8_t *place(uint32_t i, int which) { return table + DESK_RECORD_BYTES * (size_t)i + 4 * which; }
 
 static void expect(const char *what, uint64_t reply, uint32_t refusal, uint32_t answer) {
     tried++;
@@ -34,7 +39,7 @@ static uint64_t list(const char *q, uint32_t of, uint8_t *out, size_t len) {
     } asked[] = {
         {"with_names", desk_with_names}, {"table_aliases", desk_table_aliases}, {"column_aliases", desk_column_aliases}, {"table_refs", desk_table_refs},
         {"with_names_at", desk_with_names_at}, {"table_aliases_at", desk_table_aliases_at}, {"column_aliases_at", desk_column_aliases_at},
-        {"table_refs_at", desk_table_refs_at}, {"cursor_context", desk_cursor_context},
+        {"table_refs_at", desk_table_refs_at}, {"cursor_context", desk_cursor_context}, {"records_above", desk_records_above},
     };
     if (!strcmp(q, "token_classes")) return desk_token_classes(table, used, source, source_len, out, len);
     if (!strcmp(q, "openers_left")) return desk_openers_left(table, used, source, source_len, out, len);
@@ -46,7 +51,7 @@ static uint64_t list(const char *q, uint32_t of, uint8_t *out, size_t len) {
 }
 
 static const char *const lists[] = {"token_classes", "openers_left", "with_names", "table_aliases", "column_aliases", "table_refs",
-    "with_names_at", "table_aliases_at", "column_aliases_at", "table_refs_at", "cursor_context"};
+    "with_names_at", "table_aliases_at", "column_aliases_at", "table_refs_at", "cursor_context", "records_above"};
 
 enum { GUARD = 32, ROOM = DESK_REFERENCE_BYTES * DESK_RECORDS_MAX };
 static uint8_t lent[GUARD + ROOM + GUARD], before[sizeof lent], table_before[sizeof table], source_before[sizeof source];
@@ -137,6 +142,13 @@ static void answers(void) {
         in_room(lists[i], 17, ROOM, 8, 0, NULL, 0);
         in_room(lists[i], DESK_NONE, 0, 8, 0, NULL, 0);
     }
+    static const uint32_t above[] = {15, 9, 1, 0};
+    in_rooms("records_above", 16, above, 4, DESK_ABOVE_BYTES);
+    in_rooms("records_above", 9, above + 2, 2, DESK_ABOVE_BYTES);
+    in_rooms("records_above", 0, NULL, 0, DESK_ABOVE_BYTES);
+    in_room("records_above", 17, ROOM, 8, 0, NULL, 0);
+    in_room("records_above", DESK_NONE, 0, 8, 0, NULL, 0);
+    expect("layout", desk_layout_2(), DESK_LAYOUT, 0);
     page("");
     record(1, 0, DESK_NONE, 0);
     expect("no source", desk_check(table, used, NULL, 0), 0, 0);
@@ -193,7 +205,7 @@ static void longest_lists(void) {
         classes[3 * i - 3] = 16 * i; classes[3 * i - 2] = 16 * (i + 1); classes[3 * i - 1] = DESK_NUMBER;
     }
     in_rooms("token_classes", 0, classes, DESK_RECORDS_MAX - 1, DESK_CLASS_BYTES);
-    for (uint32_t i = 1; i < DESK_RECORDS_MAX; i++) number(table + 16 * i, 137), openers[i - 1] = i;
+    for (uint32_t i = 1; i < DESK_RECORDS_MAX; i++) number(place(i, 0), 137), openers[i - 1] = i;
     in_rooms("openers_left", 0, openers, DESK_RECORDS_MAX - 1, DESK_OPENER_BYTES);
     expect("last opener", desk_bracket_hint(table, used, source, source_len, (const uint8_t *)"expected )", 10), 0, DESK_RECORDS_MAX - 1);
 }
@@ -206,25 +218,34 @@ static void refusals(void) {
     used = 0;
     for (uint32_t i = 0; i <= DESK_RECORDS_MAX; i++) record(0, i > 0, 0, 0);
     refused(1, 0);
-    used -= 16;
+    used -= DESK_RECORD_BYTES;
     admitted("most records");
     worked(); source_len = DESK_SOURCE_MAX + 1; refused(2, 0);
     source_len = DESK_SOURCE_MAX; admitted("longest source, longest message");
     expect("long message", desk_bracket_hint(table, used, source, source_len, message, DESK_MESSAGE_MAX + 1), 2, 0);
     static const uint32_t unlisted[] = {56, 127, 158, 255, 256, 257, 256 + 131, 65536 + 4, DESK_NONE};
-    for (size_t i = 0; i < sizeof unlisted / sizeof *unlisted; i++) { worked(); number(table + 32, unlisted[i]); refused(3, 2); }
-    worked(); number(table, 131); refused(4, 0);
-    worked(); number(table + 16 + 4, 2); refused(4, 1);
-    worked(); number(table + 5 * 16 + 4, 4); refused(4, 5);
-    worked(); number(table + 2 * 16 + 4, 256 + 2); refused(4, 2);
+    for (size_t i = 0; i < sizeof unlisted / sizeof *unlisted; i++) { worked(); number(place(2, 0), unlisted[i]); refused(3, 2); }
+    worked(); number(place(0, 0), 131); refused(4, 0);
+    worked(); number(place(1, 1), 2); refused(4, 1);
+    worked(); number(place(5, 1), 4); refused(4, 5);
+    worked(); number(place(2, 1), 256 + 2); refused(4, 2);
     used = 0; source_len = 0;
     for (uint32_t i = 0; i <= DESK_DEPTH_MAX; i++) record(0, i, 0, 0);
     admitted("deepest");
     record(0, DESK_DEPTH_MAX + 1, 0, 0); refused(5, DESK_DEPTH_MAX + 1);
+    /* a parent: record 0's is 0; not the record before, not an earlier one of the depth above, nothing past the record; after 4 and before 6 */
+    static const struct { uint32_t record, parent; } strays[] = {{0, 1}, {1, 1}, {4, 3}, {13, 5}, {16, 12}, {16, DESK_NONE}, {9, 257}};
+    for (size_t i = 0; i < sizeof strays / sizeof *strays; i++) { worked(); number(place(strays[i].record, 4), strays[i].parent); refused(12, strays[i].record); }
+    worked(); number(place(16, 4), 12); number(place(16, 3), DESK_NONE); refused(12, 16);
+    worked(); number(place(16, 4), 12); number(place(16, 1), 6); refused(4, 16);
+    /* a table of the old layout, four numbers a record: as many bytes as five records have here */
+    used = 0; source_len = 0;
+    for (uint32_t i = 0; i < 5; i++) for (uint32_t which = 0; which < 4; which++) number(table + used, which == 1 && i > 0), used += 4;
+    refused(4, 1);
     worked(); source_len = 19; refused(6, 16);
-    worked(); number(table + 16 * 16 + 12, DESK_NONE); refused(6, 16);
-    worked(); number(table + 4 * 16 + 8, 5); refused(6, 4);
-    worked(); number(table + 3 * 16 + 8, 7); refused(6, 3);
+    worked(); number(place(16, 3), DESK_NONE); refused(6, 16);
+    worked(); number(place(4, 2), 5); refused(6, 4);
+    worked(); number(place(3, 2), 7); refused(6, 3);
 }
 
 int main(void) {

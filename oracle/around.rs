@@ -3,7 +3,7 @@
 use crate::frames::Frame;
 
 /// The nodes above a record, nearest first.
-fn above(f: &Frame, record: usize) -> Vec<usize> {
+pub fn above(f: &Frame, record: usize) -> Vec<usize> {
     let mut out = Vec::new();
     let mut at = record;
     while f.recs[at].depth > 0 {

@@ -9,7 +9,7 @@ use std::sync::atomic::{AtomicUsize, Ordering};
 #[derive(Default)]
 pub struct Tally {
     pub rust_asked: usize,
-    pub refused: [usize; 9],
+    pub refused: [usize; 13],
     pub no_text: usize,
     pub stopped: usize,
     pub lists: usize,
@@ -21,24 +21,25 @@ pub struct Tally {
 }
 
 /// Which of our answers is falsified, to see that it is found: 0 none, 1 the check, 2 the hint, 3 the statement,
-/// 4 the cursor's root, then the count, bytes and guard of each list of a table or root, the context, and each list at the cursor; last,
-/// what glance prints.
+/// 4 the cursor's root, then the count, bytes and guard of each list of a table or root, the context, each list at the cursor, and what is above a
+/// record; last, what glance prints.
 pub static FLIP: AtomicUsize = AtomicUsize::new(0);
-pub const FLIPS: usize = 4 + 3 * 11 + 1;
+pub const FLIPS: usize = 4 + 3 * 12 + 1;
 
 pub fn flipped(n: usize) -> bool {
     FLIP.load(Ordering::Relaxed) == n
 }
 
-/// Document 01's refusals 1 to 6, written anew from its table.
+/// Document 01's refusals 1 to 6 and document 02's 12, written anew from their words.
 pub fn refusal(f: &Frame, message: usize) -> Option<(u32, u32)> {
-    let bytes = 16 * f.recs.len() + f.rest;
-    if bytes == 0 || bytes % 16 != 0 || bytes / 16 > 4096 {
+    let bytes = 20 * f.recs.len() + f.rest;
+    if bytes == 0 || bytes % 20 != 0 || bytes / 20 > 4096 {
         return Some((1, 0));
     }
     if f.source.len() > 65536 || message > 4096 {
         return Some((2, 0));
     }
+    let carried = f.parents();
     let mut end = 0;
     for (i, r) in f.recs.iter().enumerate() {
         let node = r.kind <= 55;
@@ -47,12 +48,15 @@ pub fn refusal(f: &Frame, message: usize) -> Option<(u32, u32)> {
             None => !node || r.depth != 0,
             Some(p) => r.depth == 0 || r.depth as u64 > p.depth as u64 + 1 || p.is_token() && r.depth > p.depth,
         };
+        let parent = f.recs[..i].iter().rposition(|p| p.depth.checked_add(1) == Some(r.depth)).unwrap_or(0);
         let number = if !node && !token {
             3
         } else if misplaced {
             4
         } else if r.depth > 63 {
             5
+        } else if carried[i] as usize != parent {
+            12
         } else if token && (r.start > r.end || r.end as usize > f.source.len() || r.start < end) {
             6
         } else {
@@ -83,7 +87,7 @@ fn ask(q: List, f: &Frame, table: &[u8], of: Of, room: usize, refused: Option<(u
     };
     let mut got = desk::list(q, table, &f.source, of, &mut all[GUARD..GUARD + room]);
     let at_cursor = SCOPE.contains(&q) && matches!(of, Of::Cursor(_));
-    let flip = 5 + 3 * (q as usize + if at_cursor { 5 } else { 0 });
+    let flip = 5 + 3 * (q as usize + if q == List::Above { 4 } else if at_cursor { 5 } else { 0 });
     if flipped(flip) { got.1 ^= 1 }
     if flipped(flip + 1) && got.0 == 0 && got.1 > 0 { all[GUARD + got.1 as usize * q.width() - 1] ^= 1 }
     if flipped(flip + 2) { all[GUARD + room] ^= 1 }
@@ -202,7 +206,7 @@ pub fn difference(f: &Frame, tally: &mut Tally) -> Result<(), String> {
         }
     }
     if refused.is_some() {
-        for q in [List::Classes, List::Openers, List::Context].iter().chain(&SCOPE) {
+        for q in [List::Classes, List::Openers, List::Context, List::Above].iter().chain(&SCOPE) {
             for of in [Of::Root(0), Of::Root(1), Of::Root(f.recs.len() as u32), Of::Cursor(0), Of::Cursor(NONE)] {
                 ask(*q, f, &table, of, 0, refused, &[])?;
                 ask(*q, f, &table, of, 64, refused, &[])?;
@@ -219,6 +223,13 @@ pub fn difference(f: &Frame, tally: &mut Tally) -> Result<(), String> {
         for root in [f.recs.len(), NONE as usize, f.recs.len() + 4096].into_iter().chain((0..f.recs.len()).filter(|&i| f.recs[i].is_token()).take(2)) {
             ask(q, f, &table, Of::Root(root as u32), 64, Some((8, 0)), &[])?;
         }
+    }
+    for record in [f.recs.len(), NONE as usize] {
+        ask(List::Above, f, &table, Of::Root(record as u32), 64, Some((8, 0)), &[])?;
+    }
+    for record in (0..f.recs.len()).step_by(f.recs.len().div_ceil(40)) {
+        let above: Vec<Vec<u32>> = around::above(f, record).into_iter().map(|i| vec![i as u32]).collect();
+        in_rooms(List::Above, f, &table, Of::Root(record as u32), &above, tally)?;
     }
     let plain = in_ascii(f);
     let rust = match Asked::new(f) {

@@ -8,6 +8,7 @@ extern "C" {
     fn desk_table_aliases(t: *const u8, tn: usize, s: *const u8, sn: usize, r: u32, o: *mut u8, on: usize) -> u64;
     fn desk_column_aliases(t: *const u8, tn: usize, s: *const u8, sn: usize, r: u32, o: *mut u8, on: usize) -> u64;
     fn desk_table_refs(t: *const u8, tn: usize, s: *const u8, sn: usize, r: u32, o: *mut u8, on: usize) -> u64;
+    fn desk_records_above(t: *const u8, tn: usize, s: *const u8, sn: usize, r: u32, o: *mut u8, on: usize) -> u64;
     fn desk_cursor_context(t: *const u8, tn: usize, s: *const u8, sn: usize, f: u32, o: *mut u8, on: usize) -> u64;
     fn desk_enclosing_statement(t: *const u8, tn: usize, s: *const u8, sn: usize, f: u32) -> u64;
     fn desk_cursor_root(t: *const u8, tn: usize, s: *const u8, sn: usize, f: u32) -> u64;
@@ -27,9 +28,10 @@ pub enum List {
     ColumnAliases,
     TableRefs,
     Context,
+    Above,
 }
 
-/// What a list is of: a root, or the cursor at an offset. It counts for the scope's lists and the context only.
+/// What a list is of: a root or record, or the cursor at an offset. It counts for the scope's lists, the context and what is above only.
 #[derive(Clone, Copy, PartialEq, Debug)]
 pub enum Of {
     Root(u32),
@@ -43,7 +45,7 @@ impl List {
     pub fn width(self) -> usize {
         match self {
             List::Classes => 12,
-            List::Openers => 4,
+            List::Openers | List::Above => 4,
             List::TableRefs => 28,
             List::Context => 16,
             _ => 24,
@@ -86,6 +88,7 @@ pub fn list(q: List, t: &[u8], s: &[u8], of: Of, out: &mut [u8]) -> (u32, u32) {
             (List::TableAliases, Of::Cursor(f)) => desk_table_aliases_at(tp, tn, sp, sn, f, op, on),
             (List::ColumnAliases, Of::Cursor(f)) => desk_column_aliases_at(tp, tn, sp, sn, f, op, on),
             (List::TableRefs, Of::Cursor(f)) => desk_table_refs_at(tp, tn, sp, sn, f, op, on),
+            (List::Above, Of::Cursor(r) | Of::Root(r)) => desk_records_above(tp, tn, sp, sn, r, op, on),
             (List::Context, Of::Cursor(f) | Of::Root(f)) => desk_cursor_context(tp, tn, sp, sn, f, op, on),
         }
     })

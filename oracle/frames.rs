@@ -27,6 +27,8 @@ pub struct Frame {
     pub message: Vec<u8>,
     /// Bytes behind the last record, for tables of a wrong length.
     pub rest: usize,
+    /// Records that carry another number than their parent's.
+    pub strays: Vec<(usize, u32)>,
 }
 
 impl Frame {
@@ -37,9 +39,23 @@ impl Frame {
     }
 
     pub fn table(&self) -> Vec<u8> {
-        let mut t: Vec<u8> = self.recs.iter().flat_map(|r| [r.kind, r.depth, r.start, r.end]).flat_map(u32::to_le_bytes).collect();
+        let mut t: Vec<u8> = self.recs.iter().zip(self.parents()).flat_map(|(r, p)| [r.kind, r.depth, r.start, r.end, p]).flat_map(u32::to_le_bytes).collect();
         t.resize(t.len() + self.rest, 0);
         t
+    }
+
+    /// The parent's number that each record carries: that of the last record one less deep, but for strays.
+    pub fn parents(&self) -> Vec<u32> {
+        let mut last = std::collections::HashMap::new();
+        let mut parents = Vec::new();
+        for (i, r) in self.recs.iter().enumerate() {
+            parents.push(r.depth.checked_sub(1).and_then(|d| last.get(&d).copied()).unwrap_or(0));
+            last.insert(r.depth, i as u32);
+        }
+        for &(i, p) in self.strays.iter().filter(|s| s.0 < self.recs.len()) {
+            parents[i] = p;
+        }
+        parents
     }
 }
 
@@ -344,7 +360,7 @@ impl Query<'_> {
 }
 
 pub fn empty() -> Frame {
-    Frame { source: Vec::new(), recs: Vec::new(), message: Vec::new(), rest: 0 }
+    Frame { source: Vec::new(), recs: Vec::new(), message: Vec::new(), rest: 0, strays: Vec::new() }
 }
 
 pub fn query(seed: &mut Seed, statements: usize) -> Frame {
@@ -539,8 +555,8 @@ pub fn random(seed: &mut Seed, most: usize, deepest: u32) -> Frame {
 fn damage(f: &mut Frame, seed: &mut Seed) {
     let i = seed.below(f.recs.len());
     let token = (0..f.recs.len()).filter(|&i| f.recs[i].is_token()).last();
-    match seed.below(12) {
-        0 => f.rest = 1 + seed.below(15),
+    match seed.below(15) {
+        0 => f.rest = 1 + seed.below(19),
         1 => { f.recs.clear(); f.rest = seed.of(&[0, 0, 3]) }
         2 => { let r = *f.recs.last().expect("one"); let n = seed.of(&[4096, 4097, 4200]); while f.recs.len() < n { f.recs.push(Rec { kind: 0, ..r }) } }
         3 => f.source.resize(seed.of(&[65536, 65537, 70000]), b' '),
@@ -555,6 +571,19 @@ fn damage(f: &mut Frame, seed: &mut Seed) {
         }
         9 => { if let Some(i) = token { f.recs[i].end = f.source.len() as u32 + seed.below(3) as u32 } }
         10 => { f.recs[i].start = seed.below(f.source.len() + 2) as u32; f.recs[i].end = seed.below(f.source.len() + 2) as u32 }
-        _ => { f.recs[i].start = f.recs[i].start.wrapping_add(seed.of(&[1, NONE, 2])) }
+        11 => { f.recs[i].start = f.recs[i].start.wrapping_add(seed.of(&[1, NONE, 2])) }
+        // another parent: a number near it or far, the record before, the record itself, a later one, the same with a second fault of the record
+        12 => { let p = f.parents()[i]; f.strays.push((i, p.wrapping_add(seed.of(&[1, NONE, 256, 65536, 1 << 24])))) }
+        13 => { let p = seed.of(&[0, NONE, i as u32, (i as u32).wrapping_sub(1), i as u32 + 1, f.recs.len() as u32]); f.strays.push((i, p)) }
+        _ => {
+            let p = seed.below(f.recs.len()) as u32;
+            f.strays.push((i, p));
+            match seed.below(4) {
+                0 => f.recs[i].depth = seed.of(&[0, 1, 2, 3, 63, 64]),
+                1 => f.recs[i].end = f.source.len() as u32 + 1,
+                2 => f.recs[i].kind = seed.of(&[56, BARE_WORD, 4]),
+                _ => {}
+            }
+        }
     }
 }

@@ -16,11 +16,11 @@ const REFERENCE_BYTES: usize = 28;
 pub fn lines(f: &Frame, offset: u32) -> Option<Vec<u8>> {
     let mut out: String = f.source.iter().map(|b| format!("{b:02x}")).collect();
     write!(out, "\n{offset:08x}\n").ok()?;
-    for r in &f.recs {
+    for (r, parent) in f.recs.iter().zip(f.parents()) {
         if r.kind > 255 || r.depth > 255 {
             return None;
         }
-        writeln!(out, "{:02x}{:02x}{:08x}{:08x}", r.kind, r.depth, r.start, r.end).ok()?;
+        writeln!(out, "{:02x}{:02x}{:08x}{:08x}{parent:08x}", r.kind, r.depth, r.start, r.end).ok()?;
     }
     Some(out.into_bytes())
 }
@@ -38,7 +38,7 @@ pub fn read(input: &[u8]) -> Result<(Frame, u32), usize> {
         let fits = match i {
             0 => line.len() % 2 == 0 && line.len() <= 2 * MOST_SOURCE,
             1 => line.len() == 8,
-            _ => line.len() == 20 && i < 2 + MOST_RECORDS,
+            _ => line.len() == 28 && i < 2 + MOST_RECORDS,
         };
         if !digits || !fits {
             return Err(i + 1);
@@ -48,8 +48,9 @@ pub fn read(input: &[u8]) -> Result<(Frame, u32), usize> {
         return Err(lines.len() + 1);
     }
     let source = lines[0].chunks(2).map(|d| number(d) as u8).collect();
-    let record = |l: &&[u8]| Rec { kind: number(&l[..2]), depth: number(&l[2..4]), start: number(&l[4..12]), end: number(&l[12..]) };
-    Ok((Frame { source, recs: lines[2..].iter().map(record).collect(), message: Vec::new(), rest: 0 }, number(lines[1])))
+    let record = |l: &&[u8]| Rec { kind: number(&l[..2]), depth: number(&l[2..4]), start: number(&l[4..12]), end: number(&l[12..20]) };
+    let strays = lines[2..].iter().map(|l| number(&l[20..])).enumerate().collect();
+    Ok((Frame { source, recs: lines[2..].iter().map(record).collect(), message: Vec::new(), rest: 0, strays }, number(lines[1])))
 }
 
 /// What is to be printed, or why the Rust does not say: it stops at a lone quote mark, and it cannot be asked where a text is cut inside a character.

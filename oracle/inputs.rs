@@ -241,6 +241,8 @@ fn bad_lines(out: &mut Inputs) {
         out.put(SORT, whole.into());
     }
     out.put(SORT, good.clone());
+    // records without their parents, as they were once written
+    out.put(SORT, ended.iter().map(|l| if l.len() == 29 { format!("{}\n", &l[..20]) } else { l.to_string() }).collect::<String>().into());
     // no LF at the end, all at once and line by line; a line missing; a line twice; CR LF; upper case; spaces; an empty line; a longer and a shorter line
     for i in 0..ended.len() {
         let upto: String = ended[..i].concat();
@@ -250,7 +252,7 @@ fn bad_lines(out: &mut Inputs) {
         out.put(SORT, (upto.clone() + line).into());
         for other in ["\n".to_string(), "".into(), format!("{line}\r\n"), format!("{line} \n"), format!(" {line}\n"), format!("{line}0\n"), format!("{line}00\n"), format!("0{line}\n"),
             format!("{}\n", &line[1..]), format!("{}\n", &line[2..]), format!("{}F\n", &line[1..]), format!("{}\n", line.replace('0', "O")), format!("{line}\n{line}\n"), format!("{line}\n\n"),
-            format!("{}\n", "0".repeat(30000)), format!("{}\n", line.replace('6', "\u{e9}")), format!("{}\t\n", &line[1..]), format!("{}\0\n", &line[1..])] {
+            format!("{}\n", "0".repeat(40000)), format!("{}\n", line.replace('6', "\u{e9}")), format!("{}\t\n", &line[1..]), format!("{}\0\n", &line[1..])] {
             out.put(SORT, (upto.clone() + &other + &behind).into());
         }
         for byte in [b'g', b'G', b'A', b'F', b'/', b':', b'`', b'@', b'.', 127, 128, 200, 255] {

@@ -40,7 +40,7 @@ fn counted(row: &str, side: &str, ask: &dyn Fn() -> usize) {
 
 /// The check on the table's bytes, as one would write it in Rust.
 fn check(table: &[u8], source: usize) -> usize {
-    if table.is_empty() || table.len() % 16 != 0 || table.len() > 65536 {
+    if table.is_empty() || table.len() % 20 != 0 || table.len() > 81920 {
         return 1;
     }
     if source > 65536 {
@@ -48,8 +48,9 @@ fn check(table: &[u8], source: usize) -> usize {
     }
     let number = |r: &[u8], i: usize| u32::from_le_bytes([r[4 * i], r[4 * i + 1], r[4 * i + 2], r[4 * i + 3]]);
     let (mut before, mut token_before, mut end_before) = (0, false, 0);
-    for (i, r) in table.chunks_exact(16).enumerate() {
-        let (kind, depth, start, end) = (number(r, 0), number(r, 1), number(r, 2), number(r, 3));
+    let mut last = [0; 65];
+    for (i, r) in table.chunks_exact(20).enumerate() {
+        let (kind, depth, start, end, parent) = (number(r, 0), number(r, 1), number(r, 2), number(r, 3), number(r, 4));
         let token = kind >= 128;
         if kind > 157 || !token && kind > 55 {
             return 3 + (i << 4);
@@ -60,6 +61,10 @@ fn check(table: &[u8], source: usize) -> usize {
         if depth > 63 {
             return 5 + (i << 4);
         }
+        if parent != last[depth as usize] {
+            return 12 + (i << 4);
+        }
+        last[depth as usize + 1] = i as u32;
         if token {
             if start > end || end as usize > source || start < end_before {
                 return 6 + (i << 4);

@@ -10,7 +10,7 @@ const WORKED_AT_9: &str = "C 3 7 8 0\nS 1\nT 12 - - 15 18 19 20\nK 0 6 0\nK 7 8 
 pub fn store(frames: usize, seed: u64) -> Result<Vec<u8>, String> {
     let mut list = Vec::new();
     let mut sorts: Vec<(&str, usize, usize)> = Vec::new();
-    let (mut refusals, mut stopped, mut no_text) = ([0; 10], 0, 0);
+    let (mut refusals, mut stopped, mut no_text) = ([0; 13], 0, 0);
     for (i, (sort, input)) in inputs(frames, seed).iter().enumerate() {
         let answer = match printed(input)? {
             Printed::Text(text) => text,
@@ -20,7 +20,7 @@ pub fn store(frames: usize, seed: u64) -> Result<Vec<u8>, String> {
         if i == 0 && answer != WORKED_AT_9.as_bytes() {
             return Err("the worked example is not document 01's".into());
         }
-        if answer[0] == b'R' { refusals[(answer[2] - b'0') as usize] += 1 }
+        if let Some(number) = std::str::from_utf8(&answer).ok().and_then(|a| a.strip_prefix("R ")?.split(' ').next()?.parse::<usize>().ok()) { refusals[number] += 1 }
         let size = list.len();
         list.extend(format!("{:08x}{:08x}\n", input.len(), answer.len()).bytes());
         list.extend(input);

@@ -1,16 +1,15 @@
 -- Demands 1 and 2 from the questions' promises.
---     staged                       the verdict on a question: 1 to 6, then 8, then 7
+--     staged                       the verdict on a question: 1 to 6 and 12, then 8, then 7
 --     staged-means, staged-refused it is a refusal exactly when its condition holds and none before it does, and none where none holds
 --     demanded                     both demands, of a reply and a buffer that are told by that verdict
 --     one-reply                    two replies that meet both demands are equal
---     number-told, plain-told, rooted-told    each form of promise tells them by it
+--     number-told, plain-told, rooted-told, numbered-told    each form of promise tells them by it
 -- Assumes nothing.
 use Prim.Native.Nat.{ℕ, _+_, _*_, _≤_, _<_}
 use mathlib.Core.Path.{_≡_, refl, sym, ap, _∙_}
-use mathlib.Core.Bool.{Bool, true, false, cond}
+use mathlib.Core.Bool.{Bool, true, false, cond, not}
 use mathlib.Core.List.{List, [], _∷_, _++_, map}
 use mathlib.Core.Logic.{_⊎_, inl, inr}
-use mathlib.Core.Option.{Option, none, some}
 use native.Mathlib.Omega.{arith}
 use borrow.Author.Tests.{lt-ltb, le-ltb, le-leb, ltb-true, ltb-false, leb-true, not-false}
 use lib.ListN.{length, length-map}
@@ -19,9 +18,9 @@ use Rattle.table.specs.declared.check.Verdict.{Verdict}
 use Rattle.table.specs.declared.check.Verdict.the-variants.{Admitted, Refused}
 use Rattle.table.specs.Kinds.{isNode, expression}
 use Rattle.table.specs.Table.{count, kindAt}
-use Rattle.table.specs.Rules.{Rule, first, rules, rootRules, noRoot, verdict}
+use Rattle.table.specs.Rules.{Rule, first, rules, rootRules, numberRules, noRoot, noSuchRecord, verdict}
 use Rattle.table.specs.Lists.{listBytes, roomRule, listVerdict, reply, buffer, listed, lent}
-use Rattle.table.specs.Exactly.{Broken, broken-1, broken-2, broken-3, broken-4, broken-5, broken-6, place, Least}
+use Rattle.table.specs.Exactly.{Broken, broken-1, broken-2, broken-3, broken-4, broken-5, broken-12, broken-6, rank, place, Least}
 use Rattle.table.proofs.Texts.{both}
 use Rattle.table.proofs.Exactly.{clash, refused-exactly, admitted-exactly}
 use Rattle.brackets.specs.declared.bracket_matching.Hint.{Hint}
@@ -32,8 +31,8 @@ use Rattle.statement.specs.Statement.{told, statementReply}
 use Rattle.offers.specs.Root.{rootReply}
 use Rattle.replies.specs.Reply.{packed, answered, verdictReply, listReply, hintRecord, hintReply, statementNumber, rootNumber}
 use Rattle.demands.specs.declared.Question.{Question}
-use Rattle.demands.specs.Questions.{Asked, Said, number, Matter, plain, ofRoot, list, statementRecord, matter, answerOf, saidBytes, written}
-use Rattle.demands.specs.Demand1.{NoNode, Holds, of-table, of-root, of-room, placeIn, First, Refusal, Answer, Refuses, Demand1}
+use Rattle.demands.specs.Questions.{Asked, Said, number, Named, no-one, a-root, a-record, Matter, plain, ofRoot, ofRecord, list, statementRecord, matter, answerOf, saidBytes, written}
+use Rattle.demands.specs.Demand1.{NoNode, Missing, Holds, of-table, of-name, of-room, placeIn, First, Refusal, Answer, Refuses, Demand1}
 use Rattle.demands.specs.Demand2.{Demand2}
 
 -- ---- the verdict on a question
@@ -61,17 +60,28 @@ a-node t i e w =
     let b = both (ltb i (count t)) (isNode (kindAt t i)) (not-false _ e) in
     w (ltb-true i (count t) (b .0)) (leb-true (kindAt t i) expression (b .1))
 
+not-in : (t : List ℕ) (i : ℕ) → noSuchRecord t i ≡ true → count t ≤ i
+not-in t i e = ltb-false i (count t) (not-true _ e)
+  where
+    not-true : (b : Bool) → not b ≡ true → b ≡ false
+    not-true true x = sym x
+    not-true false x = refl
+
+is-in : (t : List ℕ) (i : ℕ) → noSuchRecord t i ≡ false → count t ≤ i → ⊥
+is-in t i e h = omega (arith, ltb-true i (count t) (not-false _ e))
+
 -- 8
-unfoldable pub rooted : List ℕ → Option ℕ → Verdict
-rooted t none = Admitted
-rooted t (some i) = cond (noRoot t i) (Refused 8 0) Admitted
+unfoldable pub rooted : List ℕ → Named → Verdict
+rooted t no-one = Admitted
+rooted t (a-root i) = cond (noRoot t i) (Refused 8 0) Admitted
+rooted t (a-record i) = cond (noSuchRecord t i) (Refused 8 0) Admitted
 
 -- 7
 unfoldable pub roomy : Said → List ℕ → Verdict
 roomy s out = cond (ltb (length out) (length (saidBytes s))) (Refused 7 (answerOf s)) Admitted
 
 unfoldable pub staged : Asked → Matter → Verdict
-staged a m = after (verdict (a .table) (length (a .source)) (m .message)) (after (rooted (a .table) (m .root)) (roomy (m .said) (a .out)))
+staged a m = after (verdict (a .table) (length (a .source)) (m .message)) (after (rooted (a .table) (m .names)) (roomy (m .said) (a .out)))
 
 module _ (a : Asked) (m : Matter) where
   abbrev t : List ℕ
@@ -85,31 +95,33 @@ module _ (a : Asked) (m : Matter) where
 
   -- ---- the places
 
-  at-table : (k d : ℕ) → Broken t n (m .message) k d → (at k d ≡ place k d) × (at k d ≤ 4 * count t + 2)
-  unfolding placeIn place
+  at-table : (k d : ℕ) → Broken t n (m .message) k d → (at k d ≡ place k d) × (at k d ≤ 5 * count t + 2)
+  unfolding placeIn place rank
   at-table k d (broken-1 e z b) = rw e (refl, omega arith)
   at-table k d (broken-2 e z b) = rw e (refl, omega arith)
   at-table k d (broken-3 e h b) = rw e (refl, omega arith)
   at-table k d (broken-4 e h b) = rw e (refl, omega arith)
   at-table k d (broken-5 e h b) = rw e (refl, omega arith)
+  at-table k d (broken-12 e h b) = rw e (refl, omega arith)
   at-table k d (broken-6 e h b) = rw e (refl, omega arith)
 
-  at-root : (k d : ℕ) → k ≡ 8 → at k d ≡ 4 * count t + 3
+  at-root : (k d : ℕ) → k ≡ 8 → at k d ≡ 5 * count t + 3
   unfolding placeIn
   at-root k d e = rw e
 
-  at-room : (k d : ℕ) → k ≡ 7 → at k d ≡ 4 * count t + 4
+  at-room : (k d : ℕ) → k ≡ 7 → at k d ≡ 5 * count t + 4
   unfolding placeIn
   at-room k d e = rw e
 
-  numbers : (k d : ℕ) → Holds a m k d → (1 ≤ k) × (k ≤ 8)
+  numbers : (k d : ℕ) → Holds a m k d → (1 ≤ k) × (k ≤ 12)
   numbers k d (of-table (broken-1 e z b)) = omega arith
   numbers k d (of-table (broken-2 e z b)) = omega arith
   numbers k d (of-table (broken-3 e h b)) = omega arith
   numbers k d (of-table (broken-4 e h b)) = omega arith
   numbers k d (of-table (broken-5 e h b)) = omega arith
+  numbers k d (of-table (broken-12 e h b)) = omega arith
   numbers k d (of-table (broken-6 e h b)) = omega arith
-  numbers k d (of-root i r e z b) = omega arith
+  numbers k d (of-name e z b) = omega arith
   numbers k d (of-room e z h) = omega arith
 
   -- ---- a refusal of each stage
@@ -122,33 +134,33 @@ module _ (a : Asked) (m : Matter) where
     where
       go : (k′ d′ : ℕ) → Holds a m k′ d′ → at k d ≤ at k′ d′
       go k′ d′ (of-table b) = rw (at-table k d (l .holds) .0, at-table k′ d′ b .0) (l .none-before k′ d′ b)
-      go k′ d′ (of-root i r e z b) = rw (at-root k′ d′ e) (omega (arith, at-table k d (l .holds) .1))
+      go k′ d′ (of-name e z b) = rw (at-root k′ d′ e) (omega (arith, at-table k d (l .holds) .1))
       go k′ d′ (of-room e z h) = rw (at-room k′ d′ e) (omega (arith, at-table k d (l .holds) .1))
 
-  by-root : Nothing → (i : ℕ) → m .root ≡ some i → noRoot t i ≡ true → First a m 8 0
-  by-root free i r b = record { holds = of-root i r refl refl (no-node t i b); none-before = go }
+  by-name : Nothing → Missing t (m .names) → First a m 8 0
+  by-name free b = record { holds = of-name refl refl b; none-before = go }
     where
       go : (k′ d′ : ℕ) → Holds a m k′ d′ → at 8 0 ≤ at k′ d′
       go k′ d′ (of-table x) = absurd (free k′ d′ x)
-      go k′ d′ (of-root j q e z x) = rw (at-root 8 0 refl, at-root k′ d′ e) (omega arith)
+      go k′ d′ (of-name e z x) = rw (at-root 8 0 refl, at-root k′ d′ e) (omega arith)
       go k′ d′ (of-room e z h) = rw (at-root 8 0 refl, at-room k′ d′ e) (omega arith)
 
-  abbrev Rooted : Type 0
-  Rooted = (i : ℕ) → m .root ≡ some i → noRoot t i ≡ false
+  abbrev There : Type 0
+  There = Missing t (m .names) → ⊥
 
-  by-room : Nothing → Rooted → length (a .out) < length (saidBytes (m .said)) → First a m 7 (answerOf (m .said))
+  by-room : Nothing → There → length (a .out) < length (saidBytes (m .said)) → First a m 7 (answerOf (m .said))
   by-room free r h = record { holds = of-room refl refl h; none-before = go }
     where
       go : (k′ d′ : ℕ) → Holds a m k′ d′ → at 7 (answerOf (m .said)) ≤ at k′ d′
       go k′ d′ (of-table x) = absurd (free k′ d′ x)
-      go k′ d′ (of-root i q e z x) = absurd (a-node t i (r i q) x)
+      go k′ d′ (of-name e z x) = absurd (r x)
       go k′ d′ (of-room e z g) = rw (at-room 7 (answerOf (m .said)) refl, at-room k′ d′ e) (omega arith)
 
   -- ---- from the verdict
 
   record Free : Type 0 where
     none : Nothing
-    root : Rooted
+    root : There
     room : length (saidBytes (m .said)) ≤ length (a .out)
 
   -- what a verdict means
@@ -157,33 +169,34 @@ module _ (a : Asked) (m : Matter) where
   Means (Refused k d) = First a m k d
 
   staged-means : Means (staged a m)
-  unfolding staged after Means roomy rooted
+  unfolding staged after Means roomy rooted Missing
   staged-means = go (verdict t n (m .message)) refl
     where
-      on-room : Nothing → Rooted → (b : Bool) → ltb (length (a .out)) (length (saidBytes (m .said))) ≡ b → Means (cond b (Refused 7 (answerOf (m .said))) Admitted)
+      on-room : Nothing → There → (b : Bool) → ltb (length (a .out)) (length (saidBytes (m .said))) ≡ b → Means (cond b (Refused 7 (answerOf (m .said))) Admitted)
       on-room free r true e = by-room free r (ltb-true (length (a .out)) (length (saidBytes (m .said))) e)
       on-room free r false e = record { none = free; root = r; room = ltb-false (length (a .out)) (length (saidBytes (m .said))) e }
 
-      then-room : Nothing → Rooted → Means (roomy (m .said) (a .out))
+      then-room : Nothing → There → Means (roomy (m .said) (a .out))
       then-room free r = on-room free r (ltb (length (a .out)) (length (saidBytes (m .said)))) refl
 
-      on-root : Nothing → (i : ℕ) → m .root ≡ some i → (b : Bool) → noRoot t i ≡ b → Means (after (cond b (Refused 8 0) Admitted) (roomy (m .said) (a .out)))
-      on-root free i r true e = by-root free i r e
-      on-root free i r false e = then-room free (λ j q. let z : i ≡ j = cc in rw (← z) e)
+      on-name : Nothing → (b : Bool) → (b ≡ true → Missing t (m .names)) → (b ≡ false → There) → Means (after (cond b (Refused 8 0) Admitted) (roomy (m .said) (a .out)))
+      on-name free true x y = by-name free (x refl)
+      on-name free false x y = then-room free (y refl)
 
-      then-root : Nothing → (x : Option ℕ) → m .root ≡ x → Means (after (rooted t x) (roomy (m .said) (a .out)))
-      then-root free none r = then-room free (λ j q. absurd (let z : _≡_ {A = ℕ} 0 1 = cc in omega arith))
-      then-root free (some i) r = on-root free i r (noRoot t i) refl
+      then-name : Nothing → (x : Named) → m .names ≡ x → Means (after (rooted t x) (roomy (m .said) (a .out)))
+      then-name free no-one r = then-room free (λ q. rw r at q)
+      then-name free (a-root i) r = on-name free (noRoot t i) (λ e. rw r (no-node t i e)) (λ e q. a-node t i e (rw r at q))
+      then-name free (a-record i) r = on-name free (noSuchRecord t i) (λ e. rw r (not-in t i e)) (λ e q. is-in t i e (rw r at q))
 
-      go : (v : Verdict) → verdict t n (m .message) ≡ v → Means (after v (after (rooted t (m .root)) (roomy (m .said) (a .out))))
-      go Admitted e = then-root (admitted-exactly t n (m .message) .0 e) (m .root) refl
+      go : (v : Verdict) → verdict t n (m .message) ≡ v → Means (after v (after (rooted t (m .names)) (roomy (m .said) (a .out))))
+      go Admitted e = then-name (admitted-exactly t n (m .message) .0 e) (m .names) refl
       go (Refused k d) e = by-table k d (refused-exactly t n (m .message) k d .0 e)
 
   -- ---- and back
 
   free-none : Free → (k d : ℕ) → Holds a m k d → ⊥
   free-none f k d (of-table b) = f .none k d b
-  free-none f k d (of-root i r e z b) = a-node t i (f .root i r) b
+  free-none f k d (of-name e z b) = f .root b
   free-none f k d (of-room e z h) = omega (arith, f .room)
 
   least-of : (k d : ℕ) → First a m k d → Broken t n (m .message) k d → Least t n (m .message) k d
@@ -198,13 +211,13 @@ module _ (a : Asked) (m : Matter) where
           let x : verdict t n (m .message) ≡ Refused k d = refused-exactly t n (m .message) k d .1 (least-of k d f b) in
           let y : verdict t n (m .message) ≡ Refused k′ d′ = refused-exactly t n (m .message) k′ d′ .1 (least-of k′ d′ g c) in
           (cc, cc)
-      go (of-table b) (of-root i r e z x) p = absurd (omega (arith, at-table k d b .1, at-root k′ d′ e))
+      go (of-table b) (of-name e z x) p = absurd (omega (arith, at-table k d b .1, at-root k′ d′ e))
       go (of-table b) (of-room e z h) p = absurd (omega (arith, at-table k d b .1, at-room k′ d′ e))
-      go (of-root i r e z x) (of-table c) p = absurd (omega (arith, at-table k′ d′ c .1, at-root k d e))
-      go (of-root i r e z x) (of-root j q u v y) p = (omega arith, omega arith)
-      go (of-root i r e z x) (of-room u v h) p = absurd (omega (arith, at-root k d e, at-room k′ d′ u))
+      go (of-name e z x) (of-table c) p = absurd (omega (arith, at-table k′ d′ c .1, at-root k d e))
+      go (of-name e z x) (of-name u v y) p = (omega arith, omega arith)
+      go (of-name e z x) (of-room u v h) p = absurd (omega (arith, at-root k d e, at-room k′ d′ u))
       go (of-room e z h) (of-table c) p = absurd (omega (arith, at-table k′ d′ c .1, at-room k d e))
-      go (of-room e z h) (of-root j q u v y) p = absurd (omega (arith, at-room k d e, at-root k′ d′ u))
+      go (of-room e z h) (of-name u v y) p = absurd (omega (arith, at-room k d e, at-root k′ d′ u))
       go (of-room e z h) (of-room u v g) p = (omega arith, omega arith)
 
   staged-refused : (k d : ℕ) → First a m k d → staged a m ≡ Refused k d
@@ -304,7 +317,7 @@ after-after (Refused k d) v w = refl
 -- a number
 module _ (a : Asked) (message n : ℕ) where
   abbrev saying : Matter
-  saying = record { message = message; root = none; said = number n }
+  saying = record { message = message; names = no-one; said = number n }
 
   abbrev on : Verdict
   on = verdict (a .table) (length (a .source)) message
@@ -390,4 +403,13 @@ module _ (a : Asked) {E : Type 0} (row : E → List ℕ) (es : List E) where
   unfolding staged rooted verdict
   rooted-told i =
       list-told (rootRules (a .table) (length (a .source)) i) (ofRoot i (list row es)) refl
+      (sym (ap (λ (v : Verdict). after v roomed) (first-after (rules (a .table) (length (a .source)) 0) _) ∙ after-after _ _ roomed))
+
+  pub numbered-told : (i : ℕ) {r : ℕ} {o : List ℕ}
+      → (r ≡ listReply (listed (numberRules (a .table) (length (a .source)) i) row es (a .out)))
+      × (o ≡ lent (numberRules (a .table) (length (a .source)) i) row es (a .out))
+      → Told a (ofRecord i (list row es)) r o
+  unfolding staged rooted verdict
+  numbered-told i =
+      list-told (numberRules (a .table) (length (a .source)) i) (ofRecord i (list row es)) refl
       (sym (ap (λ (v : Verdict). after v roomed) (first-after (rules (a .table) (length (a .source)) 0) _) ∙ after-after _ _ roomed))

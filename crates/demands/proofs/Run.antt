@@ -34,7 +34,7 @@ use Rattle.statement.proofs.Statements.{given-first, none-exactly}
 use Rattle.replies.specs.Reply.{noRecord as nothing}
 use Rattle.demands.specs.declared.Question.the-variants.{EnclosingStatement}
 use Rattle.demands.specs.Questions.{Asked, number, statementRecord, matter, answerOf, saidBytes}
-use Rattle.demands.specs.Demand1.{Holds, of-table, of-root, of-room}
+use Rattle.demands.specs.Demand1.{Missing, Holds, of-table, of-name, of-room}
 use Rattle.demands.specs.Demand2.{Demand2}
 use Rattle.demands.specs.Run.{Around, Runnable, RunnableAt, NoneInside, Picks, Pressed}
 
@@ -255,7 +255,7 @@ module _ (a : Asked) (ok : verdict (a .table) (length (a .source)) 0 ≡ Admitte
   no-refusal : (k d : ℕ) → Holds a (matter EnclosingStatement a) k d → ⊥
   unfolding matter saidBytes
   no-refusal k d (of-table b) = admitted-exactly (a .table) (length (a .source)) 0 .0 ok k d b
-  no-refusal k d (of-root i r e z b) = let q : _≡_ {A = ℕ} 0 1 = cc in omega arith
+  no-refusal k d (of-name e z b) = unfold Missing in b
   no-refusal k d (of-room e z h) = omega arith
 
   pub pressed : (reply : ℕ) (out : List ℕ) → Demand2 EnclosingStatement a reply out → Pressed a reply

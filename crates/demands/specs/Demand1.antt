@@ -1,4 +1,4 @@
--- Demand 1: every question gives an answer or a refusal of document 01's table. A refusal is given exactly when its condition holds and
+-- Demand 1: every question gives an answer or a refusal of document 01's table, or document 02's 12. A refusal is given exactly when its condition holds and
 -- none before it in the order does, with its detail; and then every byte of the lent buffer is as it was.
 -- Definitions only; it is a contract of `ask` (src/lib.rt), and proofs/Replies.antt says why it holds.
 use Prim.Native.Nat.{ℕ, _+_, _*_, _≤_, _<_}
@@ -6,14 +6,13 @@ use mathlib.Core.Path.{_≡_}
 use mathlib.Core.Bool.{cond}
 use mathlib.Core.List.{List}
 use mathlib.Core.Logic.{_⊎_, _↔_}
-use mathlib.Core.Option.{some}
 use lib.ListN.{length}
 use lib.Dec.{eqb}
 use Rattle.table.specs.Table.{count, kindAt}
 use Rattle.table.specs.Exactly.{Node, Broken, place}
 use Rattle.replies.specs.Reply.{packed, answered}
 use Rattle.demands.specs.declared.Question.{Question}
-use Rattle.demands.specs.Questions.{Asked, Matter, matter, answerOf, saidBytes}
+use Rattle.demands.specs.Questions.{Asked, Named, no-one, a-root, a-record, Matter, matter, answerOf, saidBytes}
 
 -- ---- the conditions
 
@@ -21,15 +20,21 @@ use Rattle.demands.specs.Questions.{Asked, Matter, matter, answerOf, sai
 abbrev pub NoNode : List ℕ → ℕ → Type 0
 NoNode t i = i < count t → Node (kindAt t i) → ⊥
 
--- condition k holds with detail d: 1 to 6 of the table, the source and the message; 8 of the root that is named; 7 of the room for the list
+-- what a question names is not there: a root that is no node of the table, or a record that is not in it
+unfoldable pub Missing : List ℕ → Named → Type 0
+Missing t no-one = ⊥
+Missing t (a-root i) = NoNode t i
+Missing t (a-record i) = count t ≤ i
+
+-- condition k holds with detail d: 1 to 6 and 12 of the table, the source and the message; 8 of the record that is named; 7 of the room for the list
 pub data Holds (a : Asked) (m : Matter) (k d : ℕ) : Type 0 where
   of-table : Broken (a .table) (length (a .source)) (m .message) k d → Holds a m k d
-  of-root : (i : ℕ) → m .root ≡ some i → k ≡ 8 → d ≡ 0 → NoNode (a .table) i → Holds a m k d
+  of-name : k ≡ 8 → d ≡ 0 → Missing (a .table) (m .names) → Holds a m k d
   of-room : k ≡ 7 → d ≡ answerOf (m .said) → length (a .out) < length (saidBytes (m .said)) → Holds a m k d
 
--- the place of condition k with detail d in the order, where the table has c records: 1, 2, then record by record 3, 4, 5, 6, then 8, then 7
+-- the place of condition k with detail d in the order, where the table has c records: 1, 2, then record by record 3, 4, 5, 12, 6, then 8, then 7
 unfoldable pub placeIn : ℕ → ℕ → ℕ → ℕ
-placeIn c k d = cond (eqb k 8) (4 * c + 3) (cond (eqb k 7) (4 * c + 4) (place k d))
+placeIn c k d = cond (eqb k 8) (5 * c + 3) (cond (eqb k 7) (5 * c + 4) (place k d))
 
 -- condition k holds with detail d, and none before it in the order does
 pub record First (a : Asked) (m : Matter) (k d : ℕ) : Type 0 where
@@ -41,7 +46,7 @@ pub record First (a : Asked) (m : Matter) (k d : ℕ) : Type 0 where
 -- it is refusal k with detail d
 pub record Refusal (reply k d : ℕ) : Type 0 where
   pub from : 1 ≤ k
-  pub to : k ≤ 8
+  pub to : k ≤ 12
   pub is : reply ≡ packed k d
 
 -- it is an answer

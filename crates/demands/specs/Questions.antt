@@ -1,10 +1,11 @@
--- Every question: what it is asked, and what document 01 says to it.
+-- Every question: what it is asked, and what documents 01 and 02 say to it.
 -- Definitions only.
 use Prim.Native.Nat.{ℕ}
 use mathlib.Core.List.{List, [], _∷_, _++_, map}
-use mathlib.Core.Option.{Option, none, some}
 use lib.ListN.{length, drop}
 use Rattle.table.specs.Lists.{listBytes}
+use Rattle.table.specs.Above.{above}
+use Rattle.above.specs.Above.{aboveRow}
 use Rattle.statement.specs.declared.statement.Enclosing.{Enclosing}
 use Rattle.statement.specs.declared.statement.Enclosing.the-variants.{Outside, Record}
 use Rattle.scope.specs.Classes.{classesOf, classRow}
@@ -18,7 +19,7 @@ use Rattle.offers.specs.Root.{rootAt}
 use Rattle.offers.specs.WithNames.{withNamesAt}
 use Rattle.replies.specs.Reply.{noRecord as nothing, hintRecord, contextRow}
 use Rattle.demands.specs.declared.Question.{Question}
-use Rattle.demands.specs.declared.Question.the-variants.{Check, TokenClasses, OpenersLeft, BracketHint, WithNames, TableAliases, ColumnAliases, TableRefs, CursorContext, EnclosingStatement, CursorRoot, WithNamesAt, TableAliasesAt, ColumnAliasesAt, TableRefsAt}
+use Rattle.demands.specs.declared.Question.the-variants.{Check, TokenClasses, OpenersLeft, BracketHint, WithNames, TableAliases, ColumnAliases, TableRefs, CursorContext, EnclosingStatement, CursorRoot, WithNamesAt, TableAliasesAt, ColumnAliasesAt, TableRefsAt, RecordsAbove}
 
 -- all that a question can be asked, and the buffer that it is lent
 pub record Asked : Type 0 where
@@ -39,21 +40,30 @@ pub data Said : Type 0 where
   number : ℕ → Said
   rows : List (List ℕ) → Said
 
--- what a question is about: how long the message is that it takes, which root it names, and what document 01 says to it
+-- what a question names: no record, a root, or a record of any kind
+pub data Named : Type 0 where
+  no-one : Named
+  a-root : ℕ → Named
+  a-record : ℕ → Named
+
+-- what a question is about: how long the message is that it takes, which record it names, and what the documents say to it
 pub record Matter : Type 0 where
   pub message : ℕ
-  pub root : Option ℕ
+  pub names : Named
   pub said : Said
 
--- a question that takes no message and names no root; one that takes a message; one that names a root
+-- a question that takes no message and names no record; one that takes a message; one that names a root; one that names a record of any kind
 abbrev pub plain : Said → Matter
-plain s = record { message = 0; root = none; said = s }
+plain s = record { message = 0; names = no-one; said = s }
 
 abbrev pub ofMessage : List ℕ → Said → Matter
-ofMessage m s = record { message = length m; root = none; said = s }
+ofMessage m s = record { message = length m; names = no-one; said = s }
 
 abbrev pub ofRoot : ℕ → Said → Matter
-ofRoot i s = record { message = 0; root = some i; said = s }
+ofRoot i s = record { message = 0; names = a-root i; said = s }
+
+abbrev pub ofRecord : ℕ → Said → Matter
+ofRecord i s = record { message = 0; names = a-record i; said = s }
 
 -- a list of entries
 abbrev pub list : {E : Type 0} → (E → List ℕ) → List E → Said
@@ -81,6 +91,7 @@ matter WithNamesAt a = plain (list bindingRow (withNamesAt (a .source) (a .table
 matter TableAliasesAt a = plain (list bindingRow (tableAliases (a .source) (a .table) (rootAt (a .table) (a .offset))))
 matter ColumnAliasesAt a = plain (list bindingRow (columnAliases (a .source) (a .table) (rootAt (a .table) (a .offset))))
 matter TableRefsAt a = plain (list referenceRow (tableRefs (a .source) (a .table) (rootAt (a .table) (a .offset))))
+matter RecordsAbove a = ofRecord (a .root) (list aboveRow (above (a .table) (a .root)))
 
 -- ---- what is said, as a reply
 

@@ -13,9 +13,9 @@ use Rattle.table.specs.Table.{word, kindAt, recordAt, run, from}
 use Rattle.table.specs.Forest.{level, kids, extent, stretchEnd}
 use Rattle.table.specs.Descent.{path, pathOf, along}
 use Rattle.table.specs.Tokens.{tokensOf, only}
-use Rattle.table.specs.Rules.{rulesFrom, misplaced, lastEnd, badSpan, verdict}
+use Rattle.table.specs.Rules.{rulesFrom, misplaced, nearest, lastEnd, badSpan, verdict}
 use Rattle.table.specs.Text.{bytesOf, upper, text, says}
-use Rattle.table.specs.worked.Worked.{rec}
+use Rattle.table.specs.worked.Worked.{rec, child}
 use Rattle.names.specs.Names.{isAs, isPart, isName, direct, unquoted, nameOf, binding, lastNamed}
 use Rattle.names.specs.Bindings.{bindingRow}
 use Rattle.scope.specs.Collection.{nodeGives, collected, collection, ownWith, ownTables}
@@ -30,7 +30,8 @@ use Rattle.cursor.specs.PathRules.{columnOr, column, pathRules, ruled, elseAsk 
 use Rattle.cursor.specs.CursorContext.{lastRule, givenOr, contextAt}
 use Rattle.cursor.specs.Context.{rangeOf, coded}
 use Rattle.offers.specs.Root.{statementOr, rootOf, rootAt}
-use Rattle.offers.specs.Enclosing.{aboveAmong, queries, someQuery, beyond, statementAmong, lastRoot, rootsAmong, enclosingRoots}
+use Rattle.table.specs.Above.{aboveAmong}
+use Rattle.offers.specs.Enclosing.{queries, someQuery, beyond, statementAmong, lastRoot, rootsAmong, enclosingRoots}
 use Rattle.offers.specs.WithNames.{items, itemsBefore, boundBy, ownSeen, seenOfAll, offeredIn}
 use Rattle.replies.specs.Reply.{contextRow}
 use Rattle.demands.specs.declared.Question.the-variants.{CursorContext, TableAliases, TableRefs, WithNamesAt, TableAliasesAt, ColumnAliasesAt, TableRefsAt}
@@ -84,40 +85,40 @@ abbrev table : List ℕ
 table =
     rec file 0 0 60
     ++ rec selectStatement 1 0 60
-    ++ rec selectClause 2 0 11
-    ++ rec bareWord 3 0 6
-    ++ rec columnReference 3 7 11
-    ++ rec bareWord 4 7 8
-    ++ rec otherToken 4 8 9
-    ++ rec bareWord 4 9 11
-    ++ rec fromClause 2 12 23
-    ++ rec bareWord 3 12 16
-    ++ rec tableIdentifier 3 17 21
-    ++ rec bareWord 4 17 21
-    ++ rec tableAlias 3 22 23
-    ++ rec bareWord 4 22 23
-    ++ rec whereClause 2 24 60
-    ++ rec bareWord 3 24 29
-    ++ rec columnReference 3 30 34
-    ++ rec bareWord 4 30 31
-    ++ rec otherToken 4 31 32
-    ++ rec bareWord 4 32 34
-    ++ rec bareWord 3 35 37
-    ++ rec openingRound 3 38 39
-    ++ rec subqueryExpression 3 39 59
-    ++ rec selectStatement 4 39 59
-    ++ rec selectClause 5 39 48
-    ++ rec bareWord 6 39 45
-    ++ rec columnReference 6 46 48
-    ++ rec bareWord 7 46 47
-    ++ rec otherToken 7 47 48
-    ++ rec fromClause 5 49 59
-    ++ rec bareWord 6 49 53
-    ++ rec tableIdentifier 6 54 57
-    ++ rec bareWord 7 54 57
-    ++ rec tableAlias 6 58 59
-    ++ rec bareWord 7 58 59
-    ++ rec closingRound 3 59 60
+    ++ child 1 selectClause 2 0 11
+    ++ child 2 bareWord 3 0 6
+    ++ child 2 columnReference 3 7 11
+    ++ child 4 bareWord 4 7 8
+    ++ child 4 otherToken 4 8 9
+    ++ child 4 bareWord 4 9 11
+    ++ child 1 fromClause 2 12 23
+    ++ child 8 bareWord 3 12 16
+    ++ child 8 tableIdentifier 3 17 21
+    ++ child 10 bareWord 4 17 21
+    ++ child 8 tableAlias 3 22 23
+    ++ child 12 bareWord 4 22 23
+    ++ child 1 whereClause 2 24 60
+    ++ child 14 bareWord 3 24 29
+    ++ child 14 columnReference 3 30 34
+    ++ child 16 bareWord 4 30 31
+    ++ child 16 otherToken 4 31 32
+    ++ child 16 bareWord 4 32 34
+    ++ child 14 bareWord 3 35 37
+    ++ child 14 openingRound 3 38 39
+    ++ child 14 subqueryExpression 3 39 59
+    ++ child 22 selectStatement 4 39 59
+    ++ child 23 selectClause 5 39 48
+    ++ child 24 bareWord 6 39 45
+    ++ child 24 columnReference 6 46 48
+    ++ child 26 bareWord 7 46 47
+    ++ child 26 otherToken 7 47 48
+    ++ child 23 fromClause 5 49 59
+    ++ child 29 bareWord 6 49 53
+    ++ child 29 tableIdentifier 6 54 57
+    ++ child 31 bareWord 7 54 57
+    ++ child 29 tableAlias 6 58 59
+    ++ child 33 bareWord 7 58 59
+    ++ child 14 closingRound 3 59 60
 
 abbrev that : Asked
 that = asked table source [] cursor 0 []
@@ -127,7 +128,7 @@ noRange = absentNumber
 
 -- the table is admitted, and the three names are one word
 that-morning : (verdict table (length source) 0 ≡ Admitted) × (text source 22 23 ≡ text source 46 47) × (text source 58 59 ≡ text source 46 47)
-unfolding bytesOf verdict rulesFrom misplaced badSpan lastEnd word text
+unfolding bytesOf verdict rulesFrom misplaced nearest badSpan lastEnd word text
 that-morning = (refl, refl, refl)
 
 -- what is being typed there is a column of the table that r names

@@ -2,6 +2,7 @@
 // its low 32 bits are the refusal's number, 0 where the question is answered, and its high 32 bits the detail or the answer.
 pub mod at_cursor;
 
+use above::above::records_above;
 use brackets::bracket_matching::bracket_hint;
 use brackets::bracket_matching::openers_left;
 use replies::reply::hint_reply;
@@ -15,13 +16,23 @@ use scope::semantic_tokens::token_classes;
 use table::check::check;
 ghost use mathlib.Core.Path.{_≡_};
 ghost use lib.ListN.{length};
-ghost use Rattle.table.specs.Rules.{rules, rootRules, verdict};
+ghost use Rattle.table.specs.Rules.{rules, rootRules, numberRules, verdict};
+ghost use Rattle.table.specs.Above.{above};
+ghost use Rattle.above.specs.Above.{aboveRow};
 ghost use Rattle.scope.specs.Classes.{classRow as classRow, classesOf};
 ghost use Rattle.brackets.specs.Brackets.{openerRow as openerRow, stackLeft, openersLeft, hintOf, hinted};
 ghost use Rattle.names.specs.Bindings.{bindingRow};
 ghost use Rattle.tables.specs.Tables.{referenceRow};
 ghost use Rattle.scope.specs.Scope.{withNames, tableAliases, columnAliases, tableRefs};
 ghost use Rattle.replies.specs.Reply.{verdictReply, hintReply, AnswersC};
+
+// The layout of records and entries, by its number: a host asks for it by its name, so that one of another layout does not link.
+#[no_mangle]
+pub extern "C" fn desk_layout_2() -> u64
+    ensures { λ r. ⌜ r ≡ 2 ⌝ }
+{
+    2
+}
 
 // Is the table admitted? High half of an answer: 0.
 #[no_mangle]
@@ -92,4 +103,18 @@ pub extern "C" fn desk_table_refs(table: &[u8], source: &[u8], root: u32, out: &
         (tableRefs (now (source .entry)) (now (table .entry)) root) (now (out .entry)) r (now (out .exit)) ⌝ }
 {
     list_reply(table_refs(table, source, root as usize, out))
+}
+
+// The records above a record of any kind, nearest first. High half of an answer: the entries written.
+#[no_mangle]
+pub extern "C" fn desk_records_above(
+    table: &[u8],
+    source: &[u8],
+    record: u32,
+    out: &mut [u8],
+) -> u64
+    ensures { λ r. ⌜ AnswersC (numberRules (now (table .entry)) (length (now (source .entry))) «record») aboveRow
+        (above (now (table .entry)) «record») (now (out .entry)) r (now (out .exit)) ⌝ }
+{
+    list_reply(records_above(table, source, record as usize, out))
 }

@@ -1,4 +1,4 @@
--- An input is told by its first 29,707 bytes: a longer one has a fault before them, and it is the same fault.
+-- An input is told by its first 37,899 bytes: a longer one has a fault before them, and it is the same fault.
 --     form-same       the first line of a text and of its beginning are both of a form, or neither
 --     records-same    so the records' lines of both break one rule
 --     records-few     lines of records that break none are short
@@ -19,7 +19,7 @@ use Rattle.table.specs.declared.check.Verdict.the-variants.{Admitted, Refused}
 use Rattle.table.specs.Rules.{first}
 use Rattle.table.proofs.Laws.{lt-or-le}
 use Rattle.table.proofs.Texts.{both}
-use Rattle.lines.specs.Lines.{Line, line, lf, lines, allDigits, isHex, isSource, isNumbers, offsetDigits, recordDigits, lastLine, faulty, recordRules, frameRules}
+use Rattle.lines.specs.Lines.{Line, line, lf, lines, allDigits, isHex, isSource, isNumbers, mostBytes, mostLines, offsetDigits, recordDigits, lastLine, faulty, recordRules, frameRules}
 use Rattle.report.specs.Output.{refusalLine, unlessRefused, replied}
 use Rattle.frame.specs.Glance.{repliedTo, glanced}
 use Rattle.lines.specs.inner.Reading.{lineSpan, lineTo}
@@ -150,13 +150,20 @@ records-last i k [] g h = rw (take-nil {A = ℕ} k)
 records-last i zero (b ∷ bs) g h = absurd (omega arith)
 records-last i (suc k) (b ∷ bs) g h = too-many i (b ∷ take k bs) (omega arith) g ∙ sym (too-many i (b ∷ bs) (omega arith) g)
 
+-- how many bytes a record's line takes with its LF, and those of all records
+abbrev recordLine : ℕ
+recordLine = recordDigits + 1
+
+abbrev recordLines : ℕ
+recordLines = mostLines * recordLine
+
 module _ (i : ℕ) where
   abbrev Same : ℕ → List ℕ → Type 0
   Same k bs = first (recordRules i (lines (take k bs))) ≡ first (recordRules i (lines bs))
 
   -- one line, and then the others
   records-step : (k : ℕ) (bs : List ℕ) → recordDigits < k
-      → (lineSpan bs ≤ 20 → first (recordRules (suc i) (lines (take (k - (lineSpan bs + 1)) (drop (lineSpan bs + 1) bs)))) ≡ first (recordRules (suc i) (lines (drop (lineSpan bs + 1) bs))))
+      → (lineSpan bs ≤ recordDigits → first (recordRules (suc i) (lines (take (k - (lineSpan bs + 1)) (drop (lineSpan bs + 1) bs)))) ≡ first (recordRules (suc i) (lines (drop (lineSpan bs + 1) bs))))
       → Same k bs
   records-step k [] h r = rw (take-nil {A = ℕ} k)
   records-step zero (b ∷ bs) h r = absurd (omega arith)
@@ -176,30 +183,30 @@ module _ (i : ℕ) where
       go false q =
           records-turn i (take (suc k) all) (omega arith) ∙ rw (same, q, or-true (ltb lastLine i)) (sym (records-turn i all (omega arith) ∙ rw (q, or-true (ltb lastLine i))))
 
-records-same : (m i k : ℕ) (bs : List ℕ) → i + m ≡ 1027 → 21 * m < k → Same i k bs
+records-same : (m i k : ℕ) (bs : List ℕ) → i + m ≡ 1027 → recordLine * m < k → Same i k bs
 records-same zero i k bs e h = records-last i k bs (omega arith) (omega arith)
 records-same (suc m) i k bs e h =
     records-step i k bs (omega arith) (λ q. records-same m (suc i) (k - (lineSpan bs + 1)) (drop (lineSpan bs + 1) bs) (omega arith) (omega arith))
 
 -- lines of records that break no rule are short
 few-step : (i : ℕ) (bs : List ℕ) → 0 < length bs → Admitted ≡ first (recordRules i (lines bs))
-    → (i ≤ lastLine) × (length bs ≡ 21 + length (drop (lineSpan bs + 1) bs)) × (Admitted ≡ first (recordRules (suc i) (lines (drop (lineSpan bs + 1) bs))))
+    → (i ≤ lastLine) × (length bs ≡ recordLine + length (drop (lineSpan bs + 1) bs)) × (Admitted ≡ first (recordRules (suc i) (lines (drop (lineSpan bs + 1) bs))))
 few-step i bs h a = go (ltb lastLine i) refl (good bs) refl
   where
     turned : Admitted ≡ cond (ltb lastLine i || not (good bs)) (Refused 9 i) (first (recordRules (suc i) (lines (drop (lineSpan bs + 1) bs))))
     turned = a ∙ records-turn i bs h
 
     go : (t : Bool) → ltb lastLine i ≡ t → (g : Bool) → good bs ≡ g
-        → (i ≤ lastLine) × (length bs ≡ 21 + length (drop (lineSpan bs + 1) bs)) × (Admitted ≡ first (recordRules (suc i) (lines (drop (lineSpan bs + 1) bs))))
+        → (i ≤ lastLine) × (length bs ≡ recordLine + length (drop (lineSpan bs + 1) bs)) × (Admitted ≡ first (recordRules (suc i) (lines (drop (lineSpan bs + 1) bs))))
     go true e g q = absurd (clash (rw e at turned))
     go false e false q = absurd (clash (rw (e, q) at turned))
     go false e true q =
-        let n : length (take (lineSpan bs) bs) ≡ 20 = numbers-long recordDigits (lineTo bs (lineSpan bs)) q in
+        let n : length (take (lineSpan bs) bs) ≡ recordDigits = numbers-long recordDigits (lineTo bs (lineSpan bs)) q in
         let l : length (take (lineSpan bs) bs) ≡ lineSpan bs = length-take-le (lineSpan bs) bs (span-most bs) in
         let w : lineSpan bs < length bs = ltb-true (lineSpan bs) (length bs) (numbers-ended recordDigits (lineTo bs (lineSpan bs)) q) in
         (ltb-false lastLine i e, omega (arith, length-drop (lineSpan bs + 1) bs), rw (e, q) at turned)
 
-records-few : (m i : ℕ) (bs : List ℕ) → i + m ≡ 1027 → Admitted ≡ first (recordRules i (lines bs)) → length bs ≤ 21 * m
+records-few : (m i : ℕ) (bs : List ℕ) → i + m ≡ 1027 → Admitted ≡ first (recordRules i (lines bs)) → length bs ≤ recordLine * m
 records-few zero i bs e a =
     ⊎-elim
     (λ (h : 0 < length bs). absurd (omega (arith, few-step i bs h a .0)))
@@ -228,7 +235,7 @@ framed : (bs : List ℕ) → first (frameRules (lines bs)) ≡ whole bs
 framed bs =
     rw (first-faulty isSource source-unended bs, drop-two (lines bs), lines-behind bs, first-faulty (isNumbers offsetDigits) (numbers-unended offsetDigits) (drop (lineSpan bs + 1) bs), lines-behind (drop (lineSpan bs + 1) bs))
 
-after-offset-same : (k : ℕ) (bs : List ℕ) → 21504 < k → afterOffset (take k bs) ≡ afterOffset bs
+after-offset-same : (k : ℕ) (bs : List ℕ) → recordLines < k → afterOffset (take k bs) ≡ afterOffset bs
 after-offset-same k [] h = rw (take-nil {A = ℕ} k)
 after-offset-same zero (b ∷ bs) h = absurd (omega arith)
 after-offset-same (suc k) (b ∷ bs) h =
@@ -263,7 +270,7 @@ module _ (form : Line → Bool) (most : ℕ) (short : (l : Line) → form l ≡ 
       go true q = omega (arith, form-span form most short ends bs q, length-drop (lineSpan bs + 1) bs, r (drop (lineSpan bs + 1) bs) (rw q at a))
       go false q = absurd (never (rw q at a))
 
-after-source-same : (k : ℕ) (bs : List ℕ) → 21513 < k → afterSource (take k bs) ≡ afterSource bs
+after-source-same : (k : ℕ) (bs : List ℕ) → (offsetDigits + 1 + recordLines) < k → afterSource (take k bs) ≡ afterSource bs
 after-source-same k bs h =
     turn-same (isNumbers offsetDigits) offsetDigits (numbers-short offsetDigits) (numbers-ended offsetDigits) (Refused 9 2) afterOffset k bs (omega arith)
     (λ k′ bs′ g. after-offset-same k′ bs′ (omega arith))
@@ -272,17 +279,17 @@ whole-same : (bs : List ℕ) → whole (take inputRoom bs) ≡ whole bs
 whole-same bs =
     turn-same isSource 8192 source-short source-ended (Refused 9 1) afterSource inputRoom bs (omega arith) (λ k′ bs′ g. after-source-same k′ bs′ (omega arith))
 
-after-offset-few : (bs : List ℕ) → Admitted ≡ afterOffset bs → length bs ≤ 21504
+after-offset-few : (bs : List ℕ) → Admitted ≡ afterOffset bs → length bs ≤ recordLines
 after-offset-few bs a = go (eqb (length (lines bs)) 0) refl
   where
-    go : (t : Bool) → eqb (length (lines bs)) 0 ≡ t → length bs ≤ 21504
+    go : (t : Bool) → eqb (length (lines bs)) 0 ≡ t → length bs ≤ recordLines
     go true e = absurd (clash (rw e at a))
     go false e = records-few 1024 3 bs refl (rw e at a)
 
-whole-few : (bs : List ℕ) → Admitted ≡ whole bs → length bs ≤ 29706
+whole-few : (bs : List ℕ) → Admitted ≡ whole bs → length bs ≤ (2 * mostBytes + 1 + (offsetDigits + 1 + recordLines))
 whole-few bs a =
-    turn-few isSource 8192 source-short source-ended (Refused 9 1) afterSource 21513 bs clash
-    (λ bs′ q. turn-few (isNumbers offsetDigits) offsetDigits (numbers-short offsetDigits) (numbers-ended offsetDigits) (Refused 9 2) afterOffset 21504 bs′ clash after-offset-few q)
+    turn-few isSource 8192 source-short source-ended (Refused 9 1) afterSource (offsetDigits + 1 + recordLines) bs clash
+    (λ bs′ q. turn-few (isNumbers offsetDigits) offsetDigits (numbers-short offsetDigits) (numbers-ended offsetDigits) (Refused 9 2) afterOffset recordLines bs′ clash after-offset-few q)
     a
 
 -- THE THEOREM

@@ -1,5 +1,5 @@
--- How much of an input matters. A frame without a fault has 29,706 bytes at most: 8,193 of the source's line, 9 of the offset's, and 21 of each
--- of 1,024 records. So an input is told by its first 29,707 bytes, and a program that reads no more cuts nothing off silently.
+-- How much of an input matters. A frame without a fault has 37,898 bytes at most: 8,193 of the source's line, 9 of the offset's, and 29 of each
+-- of 1,024 records. So an input is told by its first 37,899 bytes, and a program that reads no more cuts nothing off silently.
 -- Definitions only; the theorem is `enough` in proofs/Enough.antt.
 use Prim.Native.Nat.{ℕ, _+_, _*_}
 use mathlib.Core.Path.{_≡_}

@@ -35,9 +35,10 @@ sourceOf ls = pairs (firstBytes ls)
 abbrev pub offsetOf : List Line → ℕ
 offsetOf ls = hexNumber (firstBytes (drop 1 ls))
 
--- the four numbers of a record's line: kind and depth of two digits, start and end of eight
+-- the five numbers of a record's line: kind and depth of two digits, start, end and parent of eight
 unfoldable pub fieldsOf : List ℕ → List ℕ
-fieldsOf ds = hexNumber (text ds 0 2) ∷ hexNumber (text ds 2 4) ∷ hexNumber (text ds 4 12) ∷ hexNumber (text ds 12 20) ∷ []
+fieldsOf ds =
+    hexNumber (text ds 0 2) ∷ hexNumber (text ds 2 4) ∷ hexNumber (text ds 4 12) ∷ hexNumber (text ds 12 20) ∷ hexNumber (text ds 20 28) ∷ []
 
 abbrev pub recordRow : Line → List ℕ
 recordRow l = fieldsOf (l .bytes)

@@ -63,12 +63,12 @@ mostBytes = 4096
 abbrev pub mostLines : ℕ
 mostLines = 1024
 
--- how many digits an offset has, and a record: kind and depth two, start and end eight
+-- how many digits an offset has, and a record: kind and depth two, start, end and parent eight
 abbrev pub offsetDigits : ℕ
 offsetDigits = 8
 
 abbrev pub recordDigits : ℕ
-recordDigits = 20
+recordDigits = 28
 
 -- LF ends it, and its bytes are digits
 unfoldable pub isHex : Line → Bool

@@ -25,7 +25,7 @@ pub const MOST_LINES: usize = 1024;
 // How many digits the line of an offset has, and that of a record.
 pub const OFFSET_DIGITS: usize = 8;
 
-pub const RECORD_DIGITS: usize = 20;
+pub const RECORD_DIGITS: usize = 28;
 
 // The places of the first record's line and of the last that there may be, counted from 1.
 const RECORD_LINE: usize = 3;
@@ -169,7 +169,8 @@ fn put_record(table: &mut [u8], at: usize, digits: &[u8])
     let depth = number(text_of(digits, 2, 4));
     let start = number(text_of(digits, 4, 12));
     let end = number(text_of(digits, 12, 20));
-    let entry = [kind, depth, start, end];
+    let parent = number(text_of(digits, 20, 28));
+    let entry = [kind, depth, start, end, parent];
     put_entry(table, at, &entry);
 }
 

@@ -1,5 +1,5 @@
 -- The loop that climbs to the roots around a root and writes what is seen of each.
---     Climbing, climb-start, -skip, -query, -other, -none, -last    the roots around
+--     Climbing, climb-start, -query, -other, -none, -last    the roots around
 --     own-written, offered-alone, offered-around                    with the root's own before them
 --     offered-written, offered-denied                               the list
 -- Assumes nothing.
@@ -7,13 +7,12 @@ use Prim.Native.Nat.{ℕ, _+_, _-_, _*_, _/_, _≤_, _<_}
 use mathlib.Core.Path.{_≡_, refl, sym, ap, _∙_}
 use mathlib.Core.Bool.{Bool, true, false, cond}
 use mathlib.Core.List.{List, [], _∷_, _++_, append-assoc, append-nil}
-use native.Mathlib.Numerals.{add-one}
 use native.Mathlib.Omega.{arith}
 use borrow.Author.Tests.{lt-ltb, le-ltb, ltb-false, eq-eqb, ne-eqb}
 use lib.Dec.{ltb}
 use lib.ListN.{length}
 use Rattle.table.specs.Kinds.{subqueryExpression}
-use Rattle.table.specs.Table.{count, kindAt, depthAt, part}
+use Rattle.table.specs.Table.{count, kindAt, parentAt, part}
 use Rattle.table.specs.Forest.{stretchEnd}
 use Rattle.table.specs.declared.list.Listed.the-variants.{Entries, Refused as Denied}
 use Rattle.table.specs.Lists.{listBytes, Written, Answers}
@@ -28,10 +27,11 @@ use Rattle.scope.specs.inner.Rows.{ownRows}
 use Rattle.scope.proofs.Lists.{with-rows}
 use Rattle.path.specs.Path.{isSubquery}
 use Rattle.statement.specs.Statement.{isStatement}
-use Rattle.offers.specs.Enclosing.{above, rootsAmong, enclosingRoots}
+use Rattle.table.specs.Above.{aboveAmong, above, Climbs}
+use Rattle.offers.specs.Enclosing.{rootsAmong, enclosingRoots}
 use Rattle.offers.specs.WithNames.{seenOf, seenOfAll, offeredIn}
-use Rattle.offers.specs.inner.Climb.{climb, outerRoot, outerNumber, lastOuter, rootsFrom}
-use Rattle.offers.proofs.Climbs.{above-climb, roots-climb}
+use Rattle.offers.specs.inner.Climb.{outerRoot, outerNumber, lastOuter, rootsFrom}
+use Rattle.offers.proofs.Climbs.{roots-climb}
 
 -- ---- what is known of the last enclosing root
 
@@ -80,57 +80,46 @@ module _ (src t : List ℕ) (n : ℕ) where
   abbrev pub aroundAll : List NameBinding
   aroundAll = seenOfAll src t n (rootsAmong t (above t n))
 
-  -- before the first i records are looked at, with what was written so far
-  pub record Climbing (out₀ : List ℕ) (at d outer i : ℕ) (out : List ℕ) (next : ℕ) : Type 0 where
+  -- at record i, with what was written so far
+  pub record Climbing (out₀ : List ℕ) (at outer i : ℕ) (out : List ℕ) (next : ℕ) : Type 0 where
     pub sofar : List NameBinding
     pub written : Written bindingRow sofar out₀ at out next
-    pub left : sofar ++ seenOfAll src t n (rootsFrom t outer (climb t d i)) ≡ aroundAll
+    pub left : sofar ++ seenOfAll src t n (rootsFrom t outer (above t i)) ≡ aroundAll
 
-  pub climb-start : {d : ℕ} (out : List ℕ) (at : ℕ) → n < count t → d ≡ depthAt t n → Climbing out at d 0 n out at
-  climb-start out at h e =
-      record {
-        sofar = [];
-        written = written-none bindingRow out at;
-        left = rw (e, ← above-climb t n h) (ap (seenOfAll src t n) (roots-climb t (above t n)));
-      }
+  pub climb-start : (out : List ℕ) (at : ℕ) → Climbing out at 0 n out at
+  climb-start out at =
+      record { sofar = []; written = written-none bindingRow out at; left = ap (seenOfAll src t n) (roots-climb t (above t n)) }
 
-  module _ {out₀ : List ℕ} {at d outer i : ℕ} {out : List ℕ} {next : ℕ} (w : Climbing out₀ at d outer i out next) where
-    module _ {x : ℕ} (e : i ≡ x + 1) where
-      pub climb-skip : d ≤ depthAt t x → Climbing out₀ at d outer x out next
-      unfolding climb
-      climb-skip h = record { sofar = w .sofar; written = w .written; left = rw (e, add-one x, le-ltb (depthAt t x) d h) at (w .left) }
+  module _ {out₀ : List ℕ} {at outer i : ℕ} {out : List ℕ} {next : ℕ} (w : Climbing out₀ at outer i out next) where
+    module _ {x : ℕ} (c : Climbs t) (s : 0 < i) (h : i < count t) (e : x ≡ parentAt t i) where
+      up : above t i ≡ x ∷ above t x
+      up = rw e (c .on i s h)
 
-      module _ {d′ : ℕ} (h : depthAt t x < d) (q : d′ ≡ depthAt t x) where
-        pub climb-query : {out′ : List ℕ} {next′ : ℕ} → kindAt t x ≡ subqueryExpression → Written bindingRow (seenOf src t n x) out next out′ next′
-            → Climbing out₀ at d′ 0 x out′ next′
-        unfolding climb rootsFrom seenOfAll
-        climb-query k v =
-            record {
-              sofar = w .sofar ++ seenOf src t n x;
-              written = written-then bindingRow (w .written) v;
-              left =
-                  rw q
-                  (append-assoc (w .sofar) (seenOf src t n x) (seenOfAll src t n (rootsFrom t 0 (climb t (depthAt t x) x)))
-                  ∙ (rw (e, add-one x, lt-ltb (depthAt t x) d h, eq-eqb (kindAt t x) subqueryExpression k) at (w .left)));
-            }
+      pub climb-query : {out′ : List ℕ} {next′ : ℕ} → kindAt t x ≡ subqueryExpression → Written bindingRow (seenOf src t n x) out next out′ next′
+          → Climbing out₀ at 0 x out′ next′
+      unfolding rootsFrom seenOfAll
+      climb-query k v =
+          record {
+            sofar = w .sofar ++ seenOf src t n x;
+            written = written-then bindingRow (w .written) v;
+            left =
+                append-assoc (w .sofar) (seenOf src t n x) (seenOfAll src t n (rootsFrom t 0 (above t x)))
+                ∙ (rw (up, eq-eqb (kindAt t x) subqueryExpression k) at (w .left));
+          }
 
-        pub climb-other : {outer′ : ℕ} → (kindAt t x ≡ subqueryExpression → ⊥) → outer′ ≡ outerRoot outer (kindAt t x) x → Climbing out₀ at d′ outer′ x out next
-        unfolding climb rootsFrom
-        climb-other k o =
-            record {
-              sofar = w .sofar;
-              written = w .written;
-              left = rw (q, o) (rw (e, add-one x, lt-ltb (depthAt t x) d h, ne-eqb (kindAt t x) subqueryExpression k) at (w .left));
-            }
+      pub climb-other : {outer′ : ℕ} → (kindAt t x ≡ subqueryExpression → ⊥) → outer′ ≡ outerRoot outer (kindAt t x) x → Climbing out₀ at outer′ x out next
+      unfolding rootsFrom
+      climb-other k o =
+          record { sofar = w .sofar; written = w .written; left = rw o (rw (up, ne-eqb (kindAt t x) subqueryExpression k) at (w .left)) }
 
     module _ (z : i ≡ 0) where
       pub climb-none : outer ≡ 0 → Written bindingRow aroundAll out₀ at out next
-      unfolding climb rootsFrom lastOuter seenOfAll
+      unfolding aboveAmong rootsFrom lastOuter seenOfAll
       climb-none o = rw (← (rw (z, o, append-nil (w .sofar)) at (w .left))) (w .written)
 
       pub climb-last : {r : ℕ} {out′ : List ℕ} {next′ : ℕ} → (outer ≡ 0 → ⊥) → r ≡ outerNumber outer → Written bindingRow (seenOf src t n r) out next out′ next′
           → Written bindingRow aroundAll out₀ at out′ next′
-      unfolding climb rootsFrom lastOuter seenOfAll
+      unfolding aboveAmong rootsFrom lastOuter seenOfAll
       climb-last o p v =
           let l = rw (z, ne-eqb outer 0 o, ← p, append-nil (seenOf src t n _)) at (w .left) in
           rw (← l) (written-then bindingRow (w .written) v)

@@ -1,70 +1,18 @@
--- The climb meets what stands above a record, and the roots that it finds are the enclosing roots.
---     above-climb    what stands above n
---     roots-climb    the roots among it
+-- The roots that a climb finds among what stands above a record are the enclosing roots.
+--     roots-climb
 -- Assumes nothing.
-use Prim.Native.Nat.{ℕ, zero, suc, _+_, _-_, _≤_, _<_}
+use Prim.Native.Nat.{ℕ, _+_, _-_}
 use mathlib.Core.Path.{_≡_, refl, sym, ap, _∙_}
 use mathlib.Core.Bool.{Bool, true, false, cond, _||_}
 use mathlib.Core.List.{List, [], _∷_, _++_}
-use mathlib.Core.Logic.{⊎-elim}
 use native.Mathlib.Omega.{arith}
 use borrow.Author.Tests.{lt-ltb, le-ltb, ne-eqb}
 use lib.Dec.{ltb}
-use Rattle.table.specs.Table.{count, kindAt, depthAt}
-use Rattle.table.specs.Forest.{stretchEnd}
-use Rattle.table.proofs.Laws.{lt-or-le}
-use Rattle.table.proofs.Reaches.{reaches-yes, reaches-no}
+use Rattle.table.specs.Table.{kindAt}
 use Rattle.path.specs.Path.{isSubquery}
 use Rattle.statement.specs.Statement.{isStatement}
-use Rattle.offers.specs.Enclosing.{aboveAmong, above, queries, someQuery, beyond, statementAmong, lastRoot, rootsAmong}
-use Rattle.offers.specs.inner.Climb.{climb, outerRoot, outerNumber, lastOuter, rootsFrom}
-
--- ---- what stands above
-
-module _ (t : List ℕ) (n : ℕ) (c : n < count t) where
-  -- d is the least depth from record i on, up to n
-  pub record Least (d i : ℕ) : Type 0 where
-    pub least : (j : ℕ) → i ≤ j → j ≤ n → d ≤ depthAt t j
-    pub where-is : ℕ
-    pub from : i ≤ where-is
-    pub to : where-is ≤ n
-    pub is : depthAt t where-is ≡ d
-
-  climb-above : (i d : ℕ) → i ≤ n → Least d i → aboveAmong t n i ≡ climb t d i
-  unfolding aboveAmong climb
-  climb-above zero d h l = refl
-  climb-above (suc x) d h l =
-      ⊎-elim
-      (λ (s : depthAt t x < d).
-      let r : n < stretchEnd t x = reaches-yes t x n c (omega arith) (λ j a b. omega (arith, l .least j (omega arith) b)) in
-      let on : Least (depthAt t x) x =
-      record {
-        least = λ j a b. ⊎-elim (λ (g : x < j). omega (arith, l .least j (omega arith) b)) (λ (g : j ≤ x). let e : j ≡ x = omega arith in rw e (omega arith)) (lt-or-le x j);
-        where-is = x;
-        from = omega arith;
-        to = omega arith;
-        is = refl;
-      } in
-      rw (lt-ltb n (stretchEnd t x) r, lt-ltb (depthAt t x) d s, climb-above x (depthAt t x) (omega arith) on))
-      (λ (s : d ≤ depthAt t x).
-      let r : stretchEnd t x ≤ n = reaches-no t x n c (l .where-is) (omega (arith, l .from)) (l .to) (omega (arith, l .is)) in
-      let on : Least d x =
-      record {
-        least = λ j a b. ⊎-elim (λ (g : x < j). l .least j (omega arith) b) (λ (g : j ≤ x). let e : j ≡ x = omega arith in rw e s) (lt-or-le x j);
-        where-is = l .where-is;
-        from = omega (arith, l .from);
-        to = l .to;
-        is = l .is;
-      } in
-      rw (le-ltb n (stretchEnd t x) r, le-ltb (depthAt t x) d s, climb-above x d (omega arith) on))
-      (lt-or-le (depthAt t x) d)
-
-  pub above-climb : above t n ≡ climb t (depthAt t n) n
-  above-climb =
-      climb-above n (depthAt t n) (omega arith)
-      (record { least = λ j a b. (let e : j ≡ n = omega arith in rw e (omega arith)); where-is = n; from = omega arith; to = omega arith; is = refl })
-
--- ---- the roots among it
+use Rattle.offers.specs.Enclosing.{queries, someQuery, beyond, statementAmong, lastRoot, rootsAmong}
+use Rattle.offers.specs.inner.Climb.{outerRoot, outerNumber, lastOuter, rootsFrom}
 
 module _ (t : List ℕ) where
   -- without a subquery: a statement that is found stays, else it is looked for

@@ -29,7 +29,7 @@ use Rattle.names.specs.declared.names.Bound.{Bound}
 use Rattle.names.specs.Names.{withItem}
 use Rattle.names.specs.Bindings.{entry, bindingRow}
 use Rattle.scope.specs.Collection.{nodeGives, collected, collection, collectionOf}
-use Rattle.offers.specs.Enclosing.{standsBelow}
+use Rattle.table.specs.Above.{standsBelow}
 use Rattle.offers.specs.WithNames.{Item, items, itemsBefore, boundBy, ownSeen, seenOf}
 
 -- ---- a reading that changes nothing any more

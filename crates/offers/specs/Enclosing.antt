@@ -1,30 +1,13 @@
 -- Document 02, §4: the roots around a root.
 -- t is the table's bytes, n a record's number, xs the numbers of nodes, nearest first.
 -- Definitions only.
-use Prim.Native.Nat.{ℕ, zero, suc}
-use mathlib.Core.Bool.{Bool, false, cond, _&&_, _||_}
+use Prim.Native.Nat.{ℕ}
+use mathlib.Core.Bool.{Bool, false, cond, _||_}
 use mathlib.Core.List.{List, [], _∷_, _++_}
-use lib.Dec.{ltb}
 use Rattle.table.specs.Table.{kindAt}
-use Rattle.table.specs.Forest.{stretchEnd}
+use Rattle.table.specs.Above.{above}
 use Rattle.path.specs.Path.{isSubquery}
 use Rattle.statement.specs.Statement.{isStatement}
-
--- record n stands below record x: in its stretch, behind its head
-abbrev pub standsBelow : List ℕ → ℕ → ℕ → Bool
-standsBelow t x n = ltb x n && ltb n (stretchEnd t x)
-
--- those of the first i records that record n, which comes after them, stands below, nearest first
-unfoldable pub aboveAmong : List ℕ → ℕ → ℕ → List ℕ
-aboveAmong t n zero = []
-aboveAmong t n (suc x) =
-    let on : List ℕ = aboveAmong t n x in
-    let more : List ℕ = x ∷ on in
-    cond (ltb n (stretchEnd t x)) more on
-
--- what stands above record n, nearest first
-abbrev pub above : List ℕ → ℕ → List ℕ
-above t n = aboveAmong t n n
 
 -- the kind 30 nodes among them
 unfoldable pub queries : List ℕ → List ℕ → List ℕ

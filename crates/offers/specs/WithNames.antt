@@ -13,7 +13,8 @@ use Rattle.names.specs.Names.{withItem}
 use Rattle.names.specs.Bindings.{entry}
 use Rattle.scope.specs.Scope.{collectionAt, withNames}
 use Rattle.offers.specs.Root.{rootAt}
-use Rattle.offers.specs.Enclosing.{standsBelow, enclosingRoots}
+use Rattle.table.specs.Above.{standsBelow}
+use Rattle.offers.specs.Enclosing.{enclosingRoots}
 
 -- an item of a WITH clause: its record, and what is below it
 pub record Item : Type 0 where

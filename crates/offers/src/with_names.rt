@@ -18,6 +18,7 @@ use table::list::Listed;
 use table::record::count_of;
 use table::record::depth_at;
 use table::record::kind_at;
+use table::record::parent_at;
 use table::stretch::reach_below;
 use table::stretch::rest_from;
 use table::stretch::stretch_end;
@@ -31,7 +32,8 @@ ghost use Rattle.table.specs.Forest.{inside};
 ghost use Rattle.table.specs.Rules.{mostRecords, mostDepth, rules};
 ghost use Rattle.table.specs.Lists.{farthest, Written, Answers};
 ghost use Rattle.names.specs.Bindings.{bindingRow};
-ghost use Rattle.offers.specs.Enclosing.{standsBelow, above, rootsAmong};
+ghost use Rattle.table.specs.Above.{standsBelow, above, Climbs};
+ghost use Rattle.offers.specs.Enclosing.{rootsAmong};
 ghost use Rattle.offers.specs.WithNames.{items, itemsBefore, boundBy, seenOf, seenOfAll, offeredIn, withNamesAt};
 ghost use Rattle.offers.specs.inner.Climb.{outerRoot, outerNumber, clauseBytes, rootBytes, aroundBytes, ownListBytes};
 
@@ -155,30 +157,26 @@ fn outer_number(outer: usize) -> usize
     if outer < 2 { 0 } else { outer - 2 }
 }
 
-// Writes the WITH names of the roots around record n, nearest first. The climb looks at each record before n once: one that is less deep than all
-// behind it, up to n, stands above n. `outer` is what is known of the last enclosing root, 0 while nothing stands above the outermost subquery.
+// Writes the WITH names of the roots around record n, nearest first: a climb from parent to parent. `outer` is what is known of the last enclosing
+// root, 0 while nothing stands above the outermost subquery.
 fn collect_around(table: &[u8], n: usize, source: &[u8], out: &mut [u8], at: usize) -> usize
-    requires { ⌜ (n < count (now table)) × (count (now table) ≤ mostRecords) × (depthAt (now table) n ≤ mostDepth) × (at + aroundBytes < farthest) ⌝ }
+    requires { ⌜ ((n < count (now table)) × (count (now table) ≤ mostRecords) × (depthAt (now table) n ≤ mostDepth) × (at + aroundBytes < farthest))
+        × Climbs (now table) ⌝ }
     ensures { λ r. ⌜ Written bindingRow
         (seenOfAll (now (source .entry)) (now (table .entry)) n (rootsAmong (now (table .entry)) (above (now (table .entry)) n)))
         (now (out .entry)) at (now (out .exit)) r × (r ≤ at + aroundBytes) ⌝ }
 {
-    let mut d = depth_at(table, n);
     let mut outer = 0;
     let mut next = at;
     let mut i = n;
     while 0 < i {
-        i -= 1;
-        let e = depth_at(table, i);
-        if e < d {
-            d = e;
-            let kind = kind_at(table, i);
-            if kind == SUBQUERY_EXPRESSION {
-                next = collect_seen(table, n, i, source, out, next);
-                outer = 0;
-            } else {
-                outer = outer_root(outer, kind, i);
-            }
+        i = parent_at(table, i);
+        let kind = kind_at(table, i);
+        if kind == SUBQUERY_EXPRESSION {
+            next = collect_seen(table, n, i, source, out, next);
+            outer = 0;
+        } else {
+            outer = outer_root(outer, kind, i);
         }
     }
     if outer == 0 {
@@ -189,8 +187,8 @@ fn collect_around(table: &[u8], n: usize, source: &[u8], out: &mut [u8], at: usi
 
 // Writes the WITH names that are offered at the root n: its own, then those of the roots around it. Only a subquery has any around it.
 fn collect_offered(table: &[u8], n: usize, source: &[u8], out: &mut [u8], at: usize) -> usize
-    requires { ⌜ (n < count (now table)) × (count (now table) ≤ mostRecords) × (depthAt (now table) n ≤ mostDepth)
-        × (at + ownListBytes + aroundBytes < farthest) ⌝ }
+    requires { ⌜ ((n < count (now table)) × (count (now table) ≤ mostRecords) × (depthAt (now table) n ≤ mostDepth)
+        × (at + ownListBytes + aroundBytes < farthest)) × Climbs (now table) ⌝ }
     ensures { λ r. ⌜ Written bindingRow (offeredIn (now (source .entry)) (now (table .entry)) n) (now (out .entry)) at (now (out .exit)) r
         × (r ≤ at + ownListBytes + aroundBytes) ⌝ }
 {
@@ -205,7 +203,7 @@ fn collect_offered(table: &[u8], n: usize, source: &[u8], out: &mut [u8], at: us
 // Lists the WITH names that are offered at the root n of a table that is admitted: counted on an empty part of the buffer, and written if it has
 // room.
 fn list_offered(table: &[u8], n: usize, source: &[u8], out: &mut [u8]) -> Listed
-    requires { ⌜ (n < count (now table)) × (count (now table) ≤ mostRecords) × (depthAt (now table) n ≤ mostDepth) ⌝ }
+    requires { ⌜ ((n < count (now table)) × (count (now table) ≤ mostRecords) × (depthAt (now table) n ≤ mostDepth)) × Climbs (now table) ⌝ }
     ensures { λ r. ⌜ Answers [] bindingRow (offeredIn (now (source .entry)) (now (table .entry)) n) (now (out .entry)) r (now (out .exit)) ⌝ }
 {
     let size = collect_offered(table, n, source, &mut out[..0], 0);

@@ -11,7 +11,7 @@ use Rattle.table.specs.declared.check.Verdict.{Verdict}
 use Rattle.table.specs.declared.check.Verdict.the-variants.{Admitted, Refused}
 use Rattle.table.specs.declared.list.Listed.{Listed}
 use Rattle.table.specs.declared.list.Listed.the-variants.{Entries, Refused as Denied}
-use Rattle.table.specs.Rules.{Rule, rule, first, rules, rulesFrom, rootRules}
+use Rattle.table.specs.Rules.{Rule, rule, first, rules, rulesFrom, rootRules, numberRules}
 use Rattle.table.specs.Lists.{roomRule}
 use Rattle.brackets.specs.declared.bracket_matching.Hint.{Hint}
 use Rattle.brackets.specs.declared.bracket_matching.Hint.the-variants.{Opener, NoOpener}
@@ -159,13 +159,16 @@ from-record : (t : List ℕ) (n i c : ℕ) → Numbered (rulesFrom t n i c)
 unfolding rulesFrom
 from-record t n i zero = done
 from-record t n i (suc c) =
-    more 3 i _ (omega arith) (more 4 i _ (omega arith) (more 5 i _ (omega arith) (more 6 i _ (omega arith) (from-record t n (suc i) c))))
+    more 3 i _ (omega arith) (more 4 i _ (omega arith) (more 5 i _ (omega arith) (more 12 i _ (omega arith) (more 6 i _ (omega arith) (from-record t n (suc i) c)))))
 
 pub all-rules : (t : List ℕ) (n m : ℕ) → Numbered (rules t n m)
 all-rules t n m = more 1 0 _ (omega arith) (more 2 0 _ (omega arith) (from-record t n 0 _))
 
 pub root-rules : (t : List ℕ) (n i : ℕ) → Numbered (rootRules t n i)
 root-rules t n i = both (all-rules t n 0) (more 8 0 _ (omega arith) done)
+
+pub number-rules : (t : List ℕ) (n i : ℕ) → Numbered (numberRules t n i)
+number-rules t n i = both (all-rules t n 0) (more 8 0 _ (omega arith) done)
 
 pub with-room : {E : Type 0} {rs : List Rule} (row : E → List ℕ) (es : List E) (out : List ℕ) →
     Numbered rs → Numbered (rs ++ roomRule row es out ∷ [])

@@ -23,7 +23,7 @@ use Rattle.table.proofs.Texts.{both}
 use Rattle.table.proofs.Fields.{kind-of}
 use Rattle.table.proofs.Reaches.{reaches-yes, reaches-no}
 use Rattle.path.specs.Path.{isSubquery}
-use Rattle.offers.specs.Enclosing.{standsBelow}
+use Rattle.table.specs.Above.{standsBelow}
 use Rattle.roots.specs.Nearest.{atOrBelow, NearestRoot, OneRoot}
 
 module _ (t : List ℕ) where

@@ -21,7 +21,8 @@ use Rattle.names.specs.Bindings.{entry}
 use Rattle.scope.specs.Scope.{withNames}
 use Rattle.path.specs.Path.{isSubquery}
 use Rattle.statement.specs.Statement.{isStatement}
-use Rattle.offers.specs.Enclosing.{standsBelow, aboveAmong, above, queries, someQuery, beyond, statementAmong, lastRoot, rootsAmong, enclosingRoots}
+use Rattle.table.specs.Above.{standsBelow, aboveAmong, above}
+use Rattle.offers.specs.Enclosing.{queries, someQuery, beyond, statementAmong, lastRoot, rootsAmong, enclosingRoots}
 use Rattle.offers.specs.WithNames.{Item, items, itemsBefore, boundBy, ownSeen, seenOf, seenOfAll, offeredIn}
 use Rattle.roots.specs.Nearest.{SeenFrom, WithNamesFrom}
 use Rattle.roots.proofs.Covers.{stands-below, Cover, inside-cover, Apart, apart-here, apart-in, nearest-in}

@@ -19,7 +19,8 @@ use Rattle.tables.specs.Tables.{references, aliases}
 use Rattle.scope.specs.Collection.{ownWith, ownColumns, ownTables}
 use Rattle.scope.specs.Scope.{withNames}
 use Rattle.path.specs.Path.{pathAt, isSubquery}
-use Rattle.offers.specs.Enclosing.{standsBelow, enclosingRoots}
+use Rattle.table.specs.Above.{standsBelow}
+use Rattle.offers.specs.Enclosing.{enclosingRoots}
 use Rattle.offers.specs.WithNames.{Item, items, offeredIn}
 
 -- ---- the nearest root

@@ -1,8 +1,8 @@
 -- The check as a loop over the records: its invariant, and a law for each thing that a turn does.
---     checking-start    before the first turn
---     checking-next     after a record that breaks no rule
---     checking-broken   at a record that breaks one
---     checking-end      after the last record
+--     checking-start                                       before the first turn
+--     checking-misfit, checking-parent, checking-span      at a record that breaks 3, 4 or 5; 12; 6
+--     checking-next                                        after a record that breaks no rule
+--     checking-end                                         after the last record
 -- Assumes nothing.
 use Prim.Native.Nat.{ℕ, zero, suc, _+_, _-_, _%_, _≤_, _<_}
 use mathlib.Core.Path.{_≡_, refl, sym, ap, _∙_}
@@ -12,20 +12,19 @@ use mathlib.Core.List.{List, [], _∷_, _++_}
 use native.Mathlib.Numerals.{add-one}
 use native.Mathlib.Nat.{zero-add}
 use native.Mathlib.Omega.{arith}
-use borrow.Author.Tests.{ltb-true, ltb-false, lt-ltb, le-ltb, ne-eqb}
+use borrow.Author.Tests.{ltb-true, ltb-false, lt-ltb, le-ltb, eq-eqb, ne-eqb}
 use lib.Dec.{eqb, ltb}
-use lib.ListN.{length}
+use lib.ListN.{length, getD, set, replicate, length-set}
+use lib.Seq.{getD-set-same, getD-set-other}
 use Rattle.table.specs.declared.record.Rec.{Rec}
 use Rattle.table.specs.declared.check.Known.{Known}
 use Rattle.table.specs.declared.check.Verdict.{Verdict}
 use Rattle.table.specs.declared.check.Verdict.the-variants.{Admitted, Refused}
-use Rattle.table.specs.declared.check.Found.{Found}
-use Rattle.table.specs.declared.check.Found.the-variants.{Next, Broken}
 use Rattle.table.specs.Kinds.{isNode, isToken}
-use Rattle.table.specs.Table.{recordBytes, count, kindAt, depthAt, recordAt}
-use Rattle.table.specs.Rules.{mostRecords, mostDepth, badLength, tooLong, unlisted, misplaced, tooDeep, badSpan, lastEnd, noRoot, Rule, rule, rulesAt, rulesFrom, rules, first, verdict, rootVerdict}
-use Rattle.table.specs.inner.Step.{deepestNext, knownAt, after, strange, outOfPlace, offSource, stepOf}
-use Rattle.table.proofs.Laws.{lt-or-le}
+use Rattle.table.specs.Table.{recordBytes, count, kindAt, depthAt, parentAt, recordAt}
+use Rattle.table.specs.Rules.{mostRecords, mostDepth, badLength, tooLong, unlisted, misplaced, tooDeep, nearest, parentOf, wrongParent, badSpan, lastEnd, noRoot, Rule, rule, rulesAt, rulesFrom, rules, first, verdict, rootVerdict}
+use Rattle.table.specs.inner.Step.{depths, deepestNext, knownAt, after, strange, outOfPlace, offSource, misfitOf}
+use Rattle.table.proofs.Laws.{lt-or-le, eq-or-not}
 
 -- ---- what the check finds at record i is what the rules say of it
 
@@ -56,70 +55,138 @@ place-at t (suc i) =
     regroup true b c = refl
     regroup false b c = refl
 
-abbrev found : Bool → Bool → Bool → Bool → Known → Found
-found p q r s b = cond p (Broken 3) (cond q (Broken 4) (cond r (Broken 5) (cond s (Broken 6) (Next b))))
+-- the first of 3, 4 and 5, of the three conditions
+abbrev early : Bool → Bool → Bool → ℕ
+early p q r = cond p 3 (cond q 4 (cond r 5 0))
 
-step-at : (t : List ℕ) (n i : ℕ)
-    → stepOf n (knownAt t i) (recordAt t 0 i) ≡ found (unlisted t i) (misplaced t i) (tooDeep t i) (badSpan t n i) (knownAt t (suc i))
-unfolding stepOf strange offSource badSpan after knownAt deepestNext lastEnd recordAt
-step-at t n i =
-    ap (λ (q : Bool). found (unlisted t i) q (tooDeep t i) (badSpan t n i) (knownAt t (suc i))) (place-at t i)
+misfit-at : (t : List ℕ) (i : ℕ) → misfitOf (knownAt t i) (recordAt t 0 i) ≡ early (unlisted t i) (misplaced t i) (tooDeep t i)
+unfolding misfitOf strange recordAt
+misfit-at t i = ap (λ (q : Bool). early (unlisted t i) q (tooDeep t i)) (place-at t i)
 
--- the verdict from record i on, where `on` is the verdict after it, by what the turn found there
-abbrev onward : ℕ → Verdict → Found → Verdict
-onward i on (Next b) = on
-onward i on (Broken k) = Refused k i
+span-at : (t : List ℕ) (n i : ℕ) → offSource n (knownAt t i) (recordAt t 0 i) ≡ badSpan t n i
+unfolding offSource badSpan knownAt recordAt
+span-at t n i = refl
 
-first-at : (t : List ℕ) (n i : ℕ) (more : List Rule)
-    → first (rulesAt t n i ++ more) ≡ onward i (first more) (stepOf n (knownAt t i) (recordAt t 0 i))
-first-at t n i more = rw (step-at t n i) (go (unlisted t i) (misplaced t i) (tooDeep t i) (badSpan t n i))
+after-at : (t : List ℕ) (i : ℕ) → after (knownAt t i) (recordAt t 0 i) ≡ knownAt t (suc i)
+unfolding after knownAt deepestNext lastEnd recordAt
+after-at t i = refl
+
+-- the verdict on record i by 3, 4 and 5, where it is `on` by the rules behind
+abbrev told : ℕ → Bool → Bool → Bool → Verdict → Verdict
+told i p q r on = cond p (Refused 3 i) (cond q (Refused 4 i) (cond r (Refused 5 i) on))
+
+told-early : (i : ℕ) (p q r : Bool) (on : Verdict) → (early p q r ≡ 0 → ⊥) → told i p q r on ≡ Refused (early p q r) i
+told-early i true q r on h = refl
+told-early i false true r on h = refl
+told-early i false false true on h = refl
+told-early i false false false on h = absurd (h refl)
+
+told-on : (i : ℕ) (p q r : Bool) (on : Verdict) → early p q r ≡ 0 → (told i p q r on ≡ on) × (r ≡ false)
+told-on i true q r on e = absurd (omega arith)
+told-on i false true r on e = absurd (omega arith)
+told-on i false false true on e = absurd (omega arith)
+told-on i false false false on e = (refl, refl)
+
+-- what the check carries along of parents: at each depth, the last record whose depth is one less
+pub record Parents (t : List ℕ) (i : ℕ) (above : List ℕ) : Type 0 where
+  pub wide : length above ≡ depths
+  pub each : (d : ℕ) → d < depths → getD above d 0 ≡ nearest t d i
+
+parents-start : (t : List ℕ) → Parents t 0 (replicate depths 0)
+unfolding nearest
+parents-start t = record { wide = refl; each = λ d h. zeros depths d }
   where
-    go : (p q r s : Bool)
-        → cond p (Refused 3 i) (cond q (Refused 4 i) (cond r (Refused 5 i) (cond s (Refused 6 i) (first more))))
-        ≡ onward i (first more) (found p q r s (knownAt t (suc i)))
-    go true q r s = refl
-    go false true r s = refl
-    go false false true s = refl
-    go false false false true = refl
-    go false false false false = refl
+    zeros : (n d : ℕ) → _≡_ {A = ℕ} (getD (replicate n 0) d 0) 0
+    zeros zero d = refl
+    zeros (suc n) zero = refl
+    zeros (suc n) (suc d) = zeros n d
+
+-- after record i, which is not too deep
+parents-next : {t above : List ℕ} {i : ℕ} → Parents t i above → depthAt t i + 1 < depths → Parents t (i + 1) (set above (depthAt t i + 1) i)
+unfolding nearest
+parents-next {t} {above} {i} w h =
+    record {
+      wide = length-set above (depthAt t i + 1) i ∙ w .wide;
+      each = λ d g.
+          rw (add-one i)
+          (⊎-elim
+          (λ e. rw (eq-eqb (depthAt t i + 1) d e, ← e) (getD-set-same above (depthAt t i + 1) i 0 (omega (arith, w .wide))))
+          (λ e. rw (ne-eqb (depthAt t i + 1) d e) (getD-set-other above (depthAt t i + 1) d i 0 (λ q. e (sym q)) ∙ w .each d g))
+          (eq-or-not (depthAt t i + 1) d));
+    }
 
 -- ---- the loop, at record i: the verdict will be v
-pub record Checking (t : List ℕ) (n i : ℕ) (b : Known) (v : Verdict) : Type 0 where
+pub record Checking (t : List ℕ) (n i : ℕ) (b : Known) (above : List ℕ) (v : Verdict) : Type 0 where
   pub known : b ≡ knownAt t i
+  pub parents : Parents t i above
   pub left : v ≡ first (rulesFrom t n i (count t - i))
 
-pub checking-start : (t : List ℕ) (n : ℕ) → Checking t n 0 (record { deepest = 0; end = 0 }) (first (rulesFrom t n 0 (count t)))
+pub checking-start : (t : List ℕ) (n : ℕ) → Checking t n 0 (record { deepest = 0; end = 0 }) (replicate depths 0) (first (rulesFrom t n 0 (count t)))
 unfolding knownAt deepestNext lastEnd
-checking-start t n = let e : count t - 0 ≡ count t = omega arith in record { known = refl; left = rw e }
+checking-start t n = let e : count t - 0 ≡ count t = omega arith in record { known = refl; parents = parents-start t; left = rw e }
 
-module _ {t : List ℕ} {n i : ℕ} {b : Known} {v : Verdict} (w : Checking t n i b v) where
-  turn : i < count t → v ≡ onward i (first (rulesFrom t n (suc i) (count t - (i + 1)))) (stepOf n b (recordAt t 0 i))
-  unfolding rulesFrom
-  turn h =
-      let e : count t - i ≡ suc (count t - (i + 1)) = omega arith in
-      w .left ∙ rw (e, w .known) (first-at t n i (rulesFrom t n (suc i) (count t - (i + 1))))
-
-  pub checking-next : {b′ : Known} → i < count t → Next b′ ≡ stepOf n b (recordAt t 0 i) → Checking t n (i + 1) b′ v
-  checking-next {b′} h s =
-      let f = rw (w .known) at s in
-      record { known = known-next f; left = rw (← s) at (turn h) ∙ rw (add-one i) }
-    where
-      known-next : Next b′ ≡ stepOf n (knownAt t i) (recordAt t 0 i) → b′ ≡ knownAt t (i + 1)
-      known-next f = rw (add-one i) (go (unlisted t i) (misplaced t i) (tooDeep t i) (badSpan t n i) (f ∙ step-at t n i))
-        where
-          go : (p q r s : Bool) → Next b′ ≡ found p q r s (knownAt t (suc i)) → b′ ≡ knownAt t (suc i)
-          go true q r s e = absurd (let z : _≡_ {A = ℕ} 0 1 = cc in omega arith)
-          go false true r s e = absurd (let z : _≡_ {A = ℕ} 0 1 = cc in omega arith)
-          go false false true s e = absurd (let z : _≡_ {A = ℕ} 0 1 = cc in omega arith)
-          go false false false true e = absurd (let z : _≡_ {A = ℕ} 0 1 = cc in omega arith)
-          go false false false false e = cc
-
-  pub checking-broken : {k : ℕ} → i < count t → Broken k ≡ stepOf n b (recordAt t 0 i) → Refused k i ≡ v
-  checking-broken h s = sym (rw (← s) at (turn h))
-
+module _ {t : List ℕ} {n i : ℕ} {b : Known} {above : List ℕ} {v : Verdict} (w : Checking t n i b above v) where
   pub checking-end : count t ≤ i → Admitted ≡ v
   unfolding rulesFrom
   checking-end h = let e : count t - i ≡ 0 = omega arith in sym (w .left ∙ rw e)
+
+  -- at record i, which was read as r
+  module _ {r : Rec} (h : i < count t) (q : r ≡ recordAt t 0 i) where
+    -- the verdict from the next record on
+    abbrev on : Verdict
+    on = first (rulesFrom t n (suc i) (count t - (i + 1)))
+
+    turn : v ≡ told i (unlisted t i) (misplaced t i) (tooDeep t i) (cond (wrongParent t i) (Refused 12 i) (cond (badSpan t n i) (Refused 6 i) on))
+    unfolding rulesFrom
+    turn = let e : count t - i ≡ suc (count t - (i + 1)) = omega arith in w .left ∙ rw e
+
+    misfit : misfitOf b r ≡ early (unlisted t i) (misplaced t i) (tooDeep t i)
+    misfit = rw (w .known, q) (misfit-at t i)
+
+    span : offSource n b r ≡ badSpan t n i
+    span = rw (w .known, q) (span-at t n i)
+
+    depth : r .depth ≡ depthAt t i
+    depth = rw q (unfold recordAt in refl)
+
+    pub checking-misfit : {k : ℕ} → k ≡ misfitOf b r → (k ≡ 0 → ⊥) → Refused k i ≡ v
+    checking-misfit s f =
+        sym (turn ∙ told-early i (unlisted t i) (misplaced t i) (tooDeep t i) _ (λ e. f (s ∙ misfit ∙ e)) ∙ rw (s ∙ misfit))
+
+    module _ {k : ℕ} (s : k ≡ misfitOf b r) (z : k ≡ 0) where
+      fits : (on′ : Verdict) → (told i (unlisted t i) (misplaced t i) (tooDeep t i) on′ ≡ on′) × (tooDeep t i ≡ false)
+      fits on′ = told-on i (unlisted t i) (misplaced t i) (tooDeep t i) on′ (sym (s ∙ misfit) ∙ z)
+
+      pub fit-depth : r .depth ≤ mostDepth
+      fit-depth = rw depth (ltb-false mostDepth (depthAt t i) (fits v .1))
+
+      fitted : v ≡ cond (wrongParent t i) (Refused 12 i) (cond (badSpan t n i) (Refused 6 i) on)
+      fitted = turn ∙ fits _ .0
+
+      expected : getD above (r .depth) 0 ≡ parentOf t i
+      expected = w .parents .each (r .depth) (omega (arith, fit-depth)) ∙ rw depth
+
+      stray : not (eqb (parentAt t i) (getD above (r .depth) 0)) ≡ wrongParent t i
+      stray = rw expected
+
+      pub checking-parent : not (eqb (parentAt t i) (getD above (r .depth) 0)) ≡ true → Refused 12 i ≡ v
+      checking-parent f = sym (fitted ∙ rw (sym stray ∙ f))
+
+      module _ (p : not (eqb (parentAt t i) (getD above (r .depth) 0)) ≡ false) where
+        owned : v ≡ cond (badSpan t n i) (Refused 6 i) on
+        owned = fitted ∙ rw (sym stray ∙ p)
+
+        pub checking-span : offSource n b r ≡ true → Refused 6 i ≡ v
+        checking-span e = sym (owned ∙ rw (sym span ∙ e))
+
+        pub checking-next : {b′ : Known} {above′ : List ℕ} → offSource n b r ≡ false → above′ ≡ set above (r .depth + 1) i → b′ ≡ after b r
+            → Checking t n (i + 1) b′ above′ v
+        checking-next e o a =
+            record {
+              known = rw (add-one i) (a ∙ rw (w .known, q) (after-at t i));
+              parents = rw (o, depth) (parents-next (w .parents) (omega (arith, fit-depth, depth)));
+              left = owned ∙ rw (sym span ∙ e, add-one i);
+            }
 
 -- a table that passes rule 1 has at most 4,096 records
 pub few : (t : List ℕ) → badLength t ≡ false → count t ≤ mostRecords

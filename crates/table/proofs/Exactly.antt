@@ -2,7 +2,7 @@
 -- is admitted exactly when none holds:
 --     refused-exactly, admitted-exactly
 -- and each condition in plain words:
---     bad-length, too-long, unlisted-kind, misplaced-first, misplaced-later, too-deep, bad-span
+--     bad-length, too-long, unlisted-kind, misplaced-first, misplaced-later, too-deep, wrong-parent, bad-span
 -- Assumes nothing.
 use Prim.Native.Nat.{ℕ, zero, suc, _+_, _*_, _%_, _≤_, _<_}
 use mathlib.Core.Path.{_≡_, refl, sym, ap, _∙_}
@@ -18,48 +18,79 @@ use lib.Dec.{ltb, leb, eqb}
 use Rattle.table.specs.declared.check.Verdict.{Verdict}
 use Rattle.table.specs.declared.check.Verdict.the-variants.{Admitted, Refused}
 use Rattle.table.specs.Kinds.{isNode, isToken, expression, otherToken, arrow}
-use Rattle.table.specs.Table.{recordBytes, count, kindAt, depthAt, startAt, endAt}
-use Rattle.table.specs.Rules.{mostRecords, mostDepth, mostSource, mostMessage, badLength, tooLong, unlisted, misplaced, tooDeep, badSpan, lastEnd, Rule, rulesAt, rulesFrom, rules, first, verdict}
-use Rattle.table.specs.Exactly.{Broken, broken-1, broken-2, broken-3, broken-4, broken-5, broken-6, place, Least, Node, Token, BadLength, TooLong, Unlisted, MisplacedFirst, MisplacedLater, TooDeep, LastToken, EndsAfter, BadSpan}
+use Rattle.table.specs.Table.{recordBytes, count, kindAt, depthAt, startAt, endAt, parentAt}
+use Rattle.table.specs.Rules.{mostRecords, mostDepth, mostSource, mostMessage, badLength, tooLong, unlisted, misplaced, tooDeep, nearest, wrongParent, badSpan, lastEnd, Rule, rulesAt, rulesFrom, rules, first, verdict}
+use Rattle.table.specs.Exactly.{Broken, broken-1, broken-2, broken-3, broken-4, broken-5, broken-12, broken-6, rank, place, Least, Node, Token, BadLength, TooLong, Unlisted, MisplacedFirst, MisplacedLater, TooDeep, NearestBefore, NoneBefore, WrongParent, LastToken, EndsAfter, BadSpan}
 use Rattle.table.proofs.Laws.{lt-or-le}
 
 pub clash : {b : Bool} → b ≡ false → b ≡ true → ⊥
 clash p q = let z : _≡_ {A = ℕ} 0 1 = cc in omega arith
 
+-- ---- the place of each condition among those of a record
+
+module _ {k : ℕ} where
+  of-3 : k ≡ 3 → rank k ≡ 3
+  unfolding rank
+  of-3 e = rw e
+
+  of-4 : k ≡ 4 → rank k ≡ 4
+  unfolding rank
+  of-4 e = rw e
+
+  of-5 : k ≡ 5 → rank k ≡ 5
+  unfolding rank
+  of-5 e = rw e
+
+  of-12 : k ≡ 12 → rank k ≡ 6
+  unfolding rank
+  of-12 e = rw e
+
+  of-6 : k ≡ 6 → rank k ≡ 7
+  unfolding rank
+  of-6 e = rw e
+
+-- the condition at a place
+abbrev at-rank : ℕ → ℕ
+at-rank r = cond (eqb r 6) 12 (cond (eqb r 7) 6 r)
+
 module _ (t : List ℕ) (n m : ℕ) where
+  -- a condition of a record is at one of five places, and at no other's
+  ranked : (k d : ℕ) → Broken t n m k d → 3 ≤ k → ((3 ≤ rank k) × (rank k ≤ 7)) × (k ≡ at-rank (rank k))
+  ranked k d (broken-1 e q b) l = absurd (omega arith)
+  ranked k d (broken-2 e q b) l = absurd (omega arith)
+  ranked k d (broken-3 e q b) l = (omega (arith, of-3 e), rw (of-3 e) e)
+  ranked k d (broken-4 e q b) l = (omega (arith, of-4 e), rw (of-4 e) e)
+  ranked k d (broken-5 e q b) l = (omega (arith, of-5 e), rw (of-5 e) e)
+  ranked k d (broken-12 e q b) l = (omega (arith, of-12 e), rw (of-12 e) e)
+  ranked k d (broken-6 e q b) l = (omega (arith, of-6 e), rw (of-6 e) e)
+
   -- ---- the rules of a record
 
-  -- the rules of record i with a number below j are kept
+  -- the rules of record i at a place below j are kept
   record Clear (i j : ℕ) : Type 0 where
     kept-3 : 3 < j → unlisted t i ≡ false
     kept-4 : 4 < j → misplaced t i ≡ false
     kept-5 : 5 < j → tooDeep t i ≡ false
-    kept-6 : 6 < j → badSpan t n i ≡ false
+    kept-12 : 6 < j → wrongParent t i ≡ false
+    kept-6 : 7 < j → badSpan t n i ≡ false
 
-  clear : (i j k : ℕ) → Clear i j → 3 ≤ k → k < j → Broken t n m k i → ⊥
+  clear : (i j k : ℕ) → Clear i j → 3 ≤ k → rank k < j → Broken t n m k i → ⊥
   clear i j k c l h (broken-1 e d b) = omega arith
   clear i j k c l h (broken-2 e d b) = omega arith
-  clear i j k c l h (broken-3 e d b) = clash (c .kept-3 (omega arith)) b
-  clear i j k c l h (broken-4 e d b) = clash (c .kept-4 (omega arith)) b
-  clear i j k c l h (broken-5 e d b) = clash (c .kept-5 (omega arith)) b
-  clear i j k c l h (broken-6 e d b) = clash (c .kept-6 (omega arith)) b
+  clear i j k c l h (broken-3 e d b) = clash (c .kept-3 (omega (arith, of-3 e))) b
+  clear i j k c l h (broken-4 e d b) = clash (c .kept-4 (omega (arith, of-4 e))) b
+  clear i j k c l h (broken-5 e d b) = clash (c .kept-5 (omega (arith, of-5 e))) b
+  clear i j k c l h (broken-12 e d b) = clash (c .kept-12 (omega (arith, of-12 e))) b
+  clear i j k c l h (broken-6 e d b) = clash (c .kept-6 (omega (arith, of-6 e))) b
 
-  last : (k d : ℕ) → Broken t n m k d → k ≤ 6
-  last k d (broken-1 e q b) = omega arith
-  last k d (broken-2 e q b) = omega arith
-  last k d (broken-3 e q b) = omega arith
-  last k d (broken-4 e q b) = omega arith
-  last k d (broken-5 e q b) = omega arith
-  last k d (broken-6 e q b) = omega arith
-
-  -- what is broken from record i on stands no earlier than rule j there
-  beyond : (i j : ℕ) → Clear i j → j ≤ 7 → (k d : ℕ) → Broken t n m k d → 3 ≤ k → i ≤ d → 4 * i + j ≤ 4 * d + k
+  -- what is broken from record i on stands no earlier than place j there
+  beyond : (i j : ℕ) → Clear i j → j ≤ 8 → (k d : ℕ) → Broken t n m k d → 3 ≤ k → i ≤ d → 5 * i + j ≤ 5 * d + rank k
   beyond i j c g k d b l h =
       ⊎-elim
-      (λ p. omega arith)
+      (λ p. omega (arith, ranked k d b l .0))
       (λ p.
       let e : d ≡ i = omega arith in
-      ⊎-elim (λ q. absurd (clear i j k c l q (rw e at b))) (λ q. omega arith) (lt-or-le k j))
+      ⊎-elim (λ q. absurd (clear i j k c l q (rw e at b))) (λ q. omega arith) (lt-or-le (rank k) j))
       (lt-or-le i d)
 
   -- ---- the rules from record i on
@@ -68,73 +99,100 @@ module _ (t : List ℕ) (n m : ℕ) where
     here : Broken t n m k d
     late : 3 ≤ k
     on : i ≤ d
-    least : (k′ d′ : ℕ) → Broken t n m k′ d′ → 3 ≤ k′ → i ≤ d′ → 4 * d + k ≤ 4 * d′ + k′
+    least : (k′ d′ : ℕ) → Broken t n m k′ d′ → 3 ≤ k′ → i ≤ d′ → 5 * d + rank k ≤ 5 * d′ + rank k′
 
   abbrev Nothing : ℕ → Type 0
   Nothing i = (k d : ℕ) → Broken t n m k d → 3 ≤ k → i ≤ d → ⊥
 
-  at-rule : (i j k d : ℕ) → Refused j i ≡ Refused k d → Broken t n m j i → 3 ≤ j → j ≤ 6 → Clear i j → From i k d
-  at-rule i j k d e b l g c =
+  at-rule : (i j k d : ℕ) → Refused j i ≡ Refused k d → Broken t n m j i → 3 ≤ j → Clear i (rank j) → From i k d
+  at-rule i j k d e b l c =
       let p : j ≡ k = cc in
       let q : i ≡ d = cc in
-      record { here = rw (p, q) at b; late = omega arith; on = omega arith; least = λ k′ d′ b′ l′ h. rw (← p, ← q) (beyond i j c (omega arith) k′ d′ b′ l′ h) }
+      record {
+        here = rw (p, q) at b;
+        late = omega arith;
+        on = omega arith;
+        least = λ k′ d′ b′ l′ h. rw (← p, ← q) (beyond i (rank j) c (omega (arith, ranked j i b l .0)) k′ d′ b′ l′ h);
+      }
 
-  next : (i : ℕ) → Clear i 7 → (k d : ℕ) → From (suc i) k d → From i k d
+  next : (i : ℕ) → Clear i 8 → (k d : ℕ) → From (suc i) k d → From i k d
   next i c k d f =
       record {
         here = f .here;
         late = f .late;
         on = omega (arith, f .on);
-        least = λ k′ d′ b′ l′ h. f .least k′ d′ b′ l′ (omega (arith, beyond i 7 c (omega arith) k′ d′ b′ l′ h, last k′ d′ b′));
+        least = λ k′ d′ b′ l′ h. f .least k′ d′ b′ l′ (omega (arith, beyond i 8 c (omega arith) k′ d′ b′ l′ h, ranked k′ d′ b′ l′ .0));
       }
 
   -- the rules of record i, one after the other, before what follows
   module _ (i : ℕ) (h : i < count t) (more : List Rule) where
-    abbrev told : Bool → Bool → Bool → Bool → Verdict
-    told p q r s = cond p (Refused 3 i) (cond q (Refused 4 i) (cond r (Refused 5 i) (cond s (Refused 6 i) (first more))))
+    abbrev told : Bool → Bool → Bool → Bool → Bool → Verdict
+    told p q r x s =
+        cond p (Refused 3 i) (cond q (Refused 4 i) (cond r (Refused 5 i) (cond x (Refused 12 i) (cond s (Refused 6 i) (first more)))))
 
-    record-refused : (k d : ℕ) → (p q r s : Bool) → unlisted t i ≡ p → misplaced t i ≡ q → tooDeep t i ≡ r → badSpan t n i ≡ s
-        → told p q r s ≡ Refused k d → (Clear i 7 → first more ≡ Refused k d → From i k d) → From i k d
-    record-refused k d true q r s a b c e v on =
-        at-rule i 3 k d v (broken-3 refl h a) (omega arith) (omega arith) (record { kept-3 = λ x. absurd (omega arith); kept-4 = λ x. absurd (omega arith); kept-5 = λ x. absurd (omega arith); kept-6 = λ x. absurd (omega arith) })
-    record-refused k d false true r s a b c e v on =
-        at-rule i 4 k d v (broken-4 refl h b) (omega arith) (omega arith) (record { kept-3 = λ x. a; kept-4 = λ x. absurd (omega arith); kept-5 = λ x. absurd (omega arith); kept-6 = λ x. absurd (omega arith) })
-    record-refused k d false false true s a b c e v on =
-        at-rule i 5 k d v (broken-5 refl h c) (omega arith) (omega arith) (record { kept-3 = λ x. a; kept-4 = λ x. b; kept-5 = λ x. absurd (omega arith); kept-6 = λ x. absurd (omega arith) })
-    record-refused k d false false false true a b c e v on =
-        at-rule i 6 k d v (broken-6 refl h e) (omega arith) (omega arith) (record { kept-3 = λ x. a; kept-4 = λ x. b; kept-5 = λ x. c; kept-6 = λ x. absurd (omega arith) })
-    record-refused k d false false false false a b c e v on =
-        on (record { kept-3 = λ x. a; kept-4 = λ x. b; kept-5 = λ x. c; kept-6 = λ x. e }) v
+    -- what is known where the rules before place j are kept
+    up-to : (j : ℕ) → (3 < j → unlisted t i ≡ false) → (4 < j → misplaced t i ≡ false) → (5 < j → tooDeep t i ≡ false)
+        → (6 < j → wrongParent t i ≡ false) → (7 < j → badSpan t n i ≡ false) → Clear i j
+    up-to j a b c x e = record { kept-3 = a; kept-4 = b; kept-5 = c; kept-12 = x; kept-6 = e }
 
-    record-admitted : (p q r s : Bool) → unlisted t i ≡ p → misplaced t i ≡ q → tooDeep t i ≡ r → badSpan t n i ≡ s
-        → told p q r s ≡ Admitted → Clear i 7 × (first more ≡ Admitted)
-    record-admitted true q r s a b c e v = absurd (let z : _≡_ {A = ℕ} 0 1 = cc in omega arith)
-    record-admitted false true r s a b c e v = absurd (let z : _≡_ {A = ℕ} 0 1 = cc in omega arith)
-    record-admitted false false true s a b c e v = absurd (let z : _≡_ {A = ℕ} 0 1 = cc in omega arith)
-    record-admitted false false false true a b c e v = absurd (let z : _≡_ {A = ℕ} 0 1 = cc in omega arith)
-    record-admitted false false false false a b c e v = (record { kept-3 = λ x. a; kept-4 = λ x. b; kept-5 = λ x. c; kept-6 = λ x. e }, v)
+    record-refused : (k d : ℕ) → (p q r x s : Bool) → unlisted t i ≡ p → misplaced t i ≡ q → tooDeep t i ≡ r → wrongParent t i ≡ x → badSpan t n i ≡ s
+        → told p q r x s ≡ Refused k d → (Clear i 8 → first more ≡ Refused k d → From i k d) → From i k d
+    record-refused k d true q r x s a b c f e v on =
+        let z = of-3 refl in
+        at-rule i 3 k d v (broken-3 refl h a) (omega arith)
+        (up-to _ (λ y. absurd (omega arith)) (λ y. absurd (omega arith)) (λ y. absurd (omega arith)) (λ y. absurd (omega arith)) (λ y. absurd (omega arith)))
+    record-refused k d false true r x s a b c f e v on =
+        let z = of-4 refl in
+        at-rule i 4 k d v (broken-4 refl h b) (omega arith)
+        (up-to _ (λ y. a) (λ y. absurd (omega arith)) (λ y. absurd (omega arith)) (λ y. absurd (omega arith)) (λ y. absurd (omega arith)))
+    record-refused k d false false true x s a b c f e v on =
+        let z = of-5 refl in
+        at-rule i 5 k d v (broken-5 refl h c) (omega arith)
+        (up-to _ (λ y. a) (λ y. b) (λ y. absurd (omega arith)) (λ y. absurd (omega arith)) (λ y. absurd (omega arith)))
+    record-refused k d false false false true s a b c f e v on =
+        let z = of-12 refl in
+        at-rule i 12 k d v (broken-12 refl h f) (omega arith)
+        (up-to _ (λ y. a) (λ y. b) (λ y. c) (λ y. absurd (omega arith)) (λ y. absurd (omega arith)))
+    record-refused k d false false false false true a b c f e v on =
+        let z = of-6 refl in
+        at-rule i 6 k d v (broken-6 refl h e) (omega arith)
+        (up-to _ (λ y. a) (λ y. b) (λ y. c) (λ y. f) (λ y. absurd (omega arith)))
+    record-refused k d false false false false false a b c f e v on = on (up-to 8 (λ y. a) (λ y. b) (λ y. c) (λ y. f) (λ y. e)) v
+
+    record-admitted : (p q r x s : Bool) → unlisted t i ≡ p → misplaced t i ≡ q → tooDeep t i ≡ r → wrongParent t i ≡ x → badSpan t n i ≡ s
+        → told p q r x s ≡ Admitted → Clear i 8 × (first more ≡ Admitted)
+    record-admitted true q r x s a b c f e v = absurd (let z : _≡_ {A = ℕ} 0 1 = cc in omega arith)
+    record-admitted false true r x s a b c f e v = absurd (let z : _≡_ {A = ℕ} 0 1 = cc in omega arith)
+    record-admitted false false true x s a b c f e v = absurd (let z : _≡_ {A = ℕ} 0 1 = cc in omega arith)
+    record-admitted false false false true s a b c f e v = absurd (let z : _≡_ {A = ℕ} 0 1 = cc in omega arith)
+    record-admitted false false false false true a b c f e v = absurd (let z : _≡_ {A = ℕ} 0 1 = cc in omega arith)
+    record-admitted false false false false false a b c f e v = (up-to 8 (λ y. a) (λ y. b) (λ y. c) (λ y. f) (λ y. e), v)
 
   from-refused : (c i : ℕ) → i + c ≡ count t → (k d : ℕ) → first (rulesFrom t n i c) ≡ Refused k d → From i k d
   unfolding rulesFrom
   from-refused zero i z k d v = absurd (let z : _≡_ {A = ℕ} 0 1 = cc in omega arith)
   from-refused (suc c) i z k d v =
-      record-refused i (omega arith) (rulesFrom t n (suc i) c) k d (unlisted t i) (misplaced t i) (tooDeep t i) (badSpan t n i) refl refl refl refl v
-      (λ l w. next i l k d (from-refused c (suc i) (omega arith) k d w))
+      record-refused i (omega arith) (rulesFrom t n (suc i) c) k d (unlisted t i) (misplaced t i) (tooDeep t i) (wrongParent t i) (badSpan t n i)
+      refl refl refl refl refl v (λ l w. next i l k d (from-refused c (suc i) (omega arith) k d w))
+
+  -- what is broken is broken in the table
+  inside : (k d : ℕ) → Broken t n m k d → 3 ≤ k → d < count t
+  inside k d (broken-1 e q b) l = absurd (omega arith)
+  inside k d (broken-2 e q b) l = absurd (omega arith)
+  inside k d (broken-3 e q b) l = q
+  inside k d (broken-4 e q b) l = q
+  inside k d (broken-5 e q b) l = q
+  inside k d (broken-12 e q b) l = q
+  inside k d (broken-6 e q b) l = q
 
   from-admitted : (c i : ℕ) → i + c ≡ count t → first (rulesFrom t n i c) ≡ Admitted → Nothing i
   unfolding rulesFrom
-  from-admitted zero i z v k d b l h = absurd (inside b)
-    where
-      inside : Broken t n m k d → ⊥
-      inside (broken-1 e q b) = omega arith
-      inside (broken-2 e q b) = omega arith
-      inside (broken-3 e q b) = omega arith
-      inside (broken-4 e q b) = omega arith
-      inside (broken-5 e q b) = omega arith
-      inside (broken-6 e q b) = omega arith
+  from-admitted zero i z v k d b l h = omega (arith, inside k d b l)
   from-admitted (suc c) i z v k d b l h =
-      let w = record-admitted i (omega arith) (rulesFrom t n (suc i) c) (unlisted t i) (misplaced t i) (tooDeep t i) (badSpan t n i) refl refl refl refl v in
-      from-admitted c (suc i) (omega arith) (w .1) k d b l (omega (arith, beyond i 7 (w .0) (omega arith) k d b l h, last k d b))
+      let w =
+      record-admitted i (omega arith) (rulesFrom t n (suc i) c) (unlisted t i) (misplaced t i) (tooDeep t i) (wrongParent t i) (badSpan t n i)
+      refl refl refl refl refl v in
+      from-admitted c (suc i) (omega arith) (w .1) k d b l (omega (arith, beyond i 8 (w .0) (omega arith) k d b l h, ranked k d b l .0))
 
   -- ---- all rules
 
@@ -142,7 +200,7 @@ module _ (t : List ℕ) (n m : ℕ) where
   unfolding place
   place-early k d h = rw (lt-ltb k 3 h)
 
-  place-late : (k d : ℕ) → 3 ≤ k → place k d ≡ 4 * d + k
+  place-late : (k d : ℕ) → 3 ≤ k → place k d ≡ 5 * d + rank k
   unfolding place
   place-late k d h = rw (le-ltb k 3 h)
 
@@ -150,13 +208,17 @@ module _ (t : List ℕ) (n m : ℕ) where
   from-least : (k d : ℕ) → badLength t ≡ false → tooLong n m ≡ false → From 0 k d → Least t n m k d
   from-least k d p q f = record { holds = f .here; none-before = λ k′ d′ b. rw (place-late k d (f .late)) (go k′ d′ b) }
     where
-      go : (k′ d′ : ℕ) → Broken t n m k′ d′ → 4 * d + k ≤ place k′ d′
+      later : (k′ d′ : ℕ) → Broken t n m k′ d′ → 3 ≤ k′ → 5 * d + rank k ≤ place k′ d′
+      later k′ d′ b l = rw (place-late k′ d′ l) (f .least k′ d′ b l (omega arith))
+
+      go : (k′ d′ : ℕ) → Broken t n m k′ d′ → 5 * d + rank k ≤ place k′ d′
       go k′ d′ (broken-1 e z b) = absurd (clash p b)
       go k′ d′ (broken-2 e z b) = absurd (clash q b)
-      go k′ d′ (broken-3 e z b) = rw (place-late k′ d′ (omega arith)) (f .least k′ d′ (broken-3 e z b) (omega arith) (omega arith))
-      go k′ d′ (broken-4 e z b) = rw (place-late k′ d′ (omega arith)) (f .least k′ d′ (broken-4 e z b) (omega arith) (omega arith))
-      go k′ d′ (broken-5 e z b) = rw (place-late k′ d′ (omega arith)) (f .least k′ d′ (broken-5 e z b) (omega arith) (omega arith))
-      go k′ d′ (broken-6 e z b) = rw (place-late k′ d′ (omega arith)) (f .least k′ d′ (broken-6 e z b) (omega arith) (omega arith))
+      go k′ d′ (broken-3 e z b) = later k′ d′ (broken-3 e z b) (omega arith)
+      go k′ d′ (broken-4 e z b) = later k′ d′ (broken-4 e z b) (omega arith)
+      go k′ d′ (broken-5 e z b) = later k′ d′ (broken-5 e z b) (omega arith)
+      go k′ d′ (broken-12 e z b) = later k′ d′ (broken-12 e z b) (omega arith)
+      go k′ d′ (broken-6 e z b) = later k′ d′ (broken-6 e z b) (omega arith)
 
   -- a number below 3 has the detail 0, and is 1 or 2
   early : (k d : ℕ) → Broken t n m k d → k < 3 → (d ≡ 0) × (1 ≤ k)
@@ -165,18 +227,20 @@ module _ (t : List ℕ) (n m : ℕ) where
   early k d (broken-3 e q b) h = absurd (omega arith)
   early k d (broken-4 e q b) h = absurd (omega arith)
   early k d (broken-5 e q b) h = absurd (omega arith)
+  early k d (broken-12 e q b) h = absurd (omega arith)
   early k d (broken-6 e q b) h = absurd (omega arith)
 
   place-first : (k d : ℕ) → Broken t n m k d → 1 ≤ place k d
-  place-first k d b = ⊎-elim (λ h. rw (place-early k d h) (early k d b h .1)) (λ h. rw (place-late k d h) (omega arith)) (lt-or-le k 3)
+  place-first k d b = ⊎-elim (λ h. rw (place-early k d h) (early k d b h .1)) (λ h. rw (place-late k d h) (omega (arith, ranked k d b h .0))) (lt-or-le k 3)
 
   place-second : badLength t ≡ false → (k d : ℕ) → Broken t n m k d → 2 ≤ place k d
   place-second p k d (broken-1 e q b) = absurd (clash p b)
   place-second p k d (broken-2 e q b) = rw (place-early k d (omega arith)) (omega arith)
-  place-second p k d (broken-3 e q b) = rw (place-late k d (omega arith)) (omega arith)
-  place-second p k d (broken-4 e q b) = rw (place-late k d (omega arith)) (omega arith)
-  place-second p k d (broken-5 e q b) = rw (place-late k d (omega arith)) (omega arith)
-  place-second p k d (broken-6 e q b) = rw (place-late k d (omega arith)) (omega arith)
+  place-second p k d (broken-3 e q b) = rw (place-late k d (omega arith)) (omega (arith, of-3 e))
+  place-second p k d (broken-4 e q b) = rw (place-late k d (omega arith)) (omega (arith, of-4 e))
+  place-second p k d (broken-5 e q b) = rw (place-late k d (omega arith)) (omega (arith, of-5 e))
+  place-second p k d (broken-12 e q b) = rw (place-late k d (omega arith)) (omega (arith, of-12 e))
+  place-second p k d (broken-6 e q b) = rw (place-late k d (omega arith)) (omega (arith, of-6 e))
 
   -- the first two rules before what follows
   refused→ : (k d : ℕ) → verdict t n m ≡ Refused k d → Least t n m k d
@@ -208,6 +272,7 @@ module _ (t : List ℕ) (n m : ℕ) where
       go false false a b v k d (broken-3 e z x) = from-admitted (count t) 0 (omega arith) v k d (broken-3 e z x) (omega arith) (omega arith)
       go false false a b v k d (broken-4 e z x) = from-admitted (count t) 0 (omega arith) v k d (broken-4 e z x) (omega arith) (omega arith)
       go false false a b v k d (broken-5 e z x) = from-admitted (count t) 0 (omega arith) v k d (broken-5 e z x) (omega arith) (omega arith)
+      go false false a b v k d (broken-12 e z x) = from-admitted (count t) 0 (omega arith) v k d (broken-12 e z x) (omega arith) (omega arith)
       go false false a b v k d (broken-6 e z x) = from-admitted (count t) 0 (omega arith) v k d (broken-6 e z x) (omega arith) (omega arith)
 
   same-place : (k d k′ d′ : ℕ) → Broken t n m k d → Broken t n m k′ d′ → place k d ≡ place k′ d′ → (k ≡ k′) × (d ≡ d′)
@@ -216,12 +281,16 @@ module _ (t : List ℕ) (n m : ℕ) where
       (λ h.
       ⊎-elim
       (λ g. (omega (arith, place-early k d h, place-early k′ d′ g), omega (arith, early k d b h .0, early k′ d′ b′ g .0)))
-      (λ g. absurd (omega (arith, place-early k d h, place-late k′ d′ g)))
+      (λ g. absurd (omega (arith, place-early k d h, place-late k′ d′ g, ranked k′ d′ b′ g .0)))
       (lt-or-le k′ 3))
       (λ h.
       ⊎-elim
-      (λ g. absurd (omega (arith, place-late k d h, place-early k′ d′ g)))
-      (λ g. (omega (arith, place-late k d h, place-late k′ d′ g, last k d b, last k′ d′ b′), omega (arith, place-late k d h, place-late k′ d′ g, last k d b, last k′ d′ b′)))
+      (λ g. absurd (omega (arith, place-late k d h, place-early k′ d′ g, ranked k d b h .0)))
+      (λ g.
+      let x = ranked k d b h in
+      let y = ranked k′ d′ b′ g in
+      let r : rank k ≡ rank k′ = omega (arith, place-late k d h, place-late k′ d′ g, x .0, y .0) in
+      (x .1 ∙ ap at-rank r ∙ sym (y .1), omega (arith, place-late k d h, place-late k′ d′ g, x .0, y .0)))
       (lt-or-le k′ 3))
       (lt-or-le k 3)
 
@@ -379,6 +448,57 @@ misplaced-later t i = rw (add-one i) (to, back)
 
 pub too-deep : (t : List ℕ) (i : ℕ) → (tooDeep t i ≡ true) ↔ TooDeep t i
 too-deep t i = (ltb-true mostDepth (depthAt t i), lt-ltb mostDepth (depthAt t i))
+
+-- what `nearest` gives is the nearest, or 0 where there is none
+pub nearest-found : (t : List ℕ) (d i : ℕ) → NearestBefore t d i (nearest t d i) ⊎ (NoneBefore t d i × (nearest t d i ≡ 0))
+unfolding nearest
+nearest-found t d zero = inr ((λ k h e. omega arith), refl)
+nearest-found t d (suc i) = go (eqb (depthAt t i + 1) d) refl (nearest-found t d i)
+  where
+    further : {Q : ℕ → Type 0} → (eqb (depthAt t i + 1) d ≡ false) → ((k : ℕ) → Q k → k < i → depthAt t k + 1 ≡ d → ⊥) → (k : ℕ) → Q k → k < suc i → depthAt t k + 1 ≡ d → ⊥
+    further b f k q h e =
+        ⊎-elim
+        (λ g. f k q g e)
+        (λ g. let z : k ≡ i = omega arith in clash b (eq-eqb (depthAt t i + 1) d (rw z at e)))
+        (lt-or-le k i)
+
+    go : (b : Bool) → eqb (depthAt t i + 1) d ≡ b → NearestBefore t d i (nearest t d i) ⊎ (NoneBefore t d i × (nearest t d i ≡ 0))
+        → NearestBefore t d (suc i) (cond b i (nearest t d i)) ⊎ (NoneBefore t d (suc i) × (cond b i (nearest t d i) ≡ 0))
+    go true b ih = inl (record { before = omega arith; depth = eqb-true (depthAt t i + 1) d b; nearest = λ k p q e. omega arith })
+    go false b (inl w) =
+        inl (record { before = omega (arith, w .before); depth = w .depth; nearest = further {Q = λ k. nearest t d i < k} b (λ k q h. w .nearest k q h) })
+    go false b (inr w) = inr ((λ k. further {Q = λ k. Unit} b (λ k q h. w .0 k h) k tt), w .1)
+
+-- and no other record is
+one-nearest : (t : List ℕ) (d i p q : ℕ) → NearestBefore t d i p → NearestBefore t d i q → p ≡ q
+one-nearest t d i p q a b =
+    ⊎-elim
+    (λ h. absurd (a .nearest q h (b .before) (b .depth)))
+    (λ h. ⊎-elim (λ g. absurd (b .nearest p g (a .before) (a .depth))) (λ g. omega arith) (lt-or-le q p))
+    (lt-or-le p q)
+
+pub wrong-parent : (t : List ℕ) (i : ℕ) → (wrongParent t i ≡ true) ↔ WrongParent t i
+wrong-parent t i = (to, back)
+  where
+    d : ℕ
+    d = depthAt t i
+
+    right : NearestBefore t d i (parentAt t i) ⊎ (NoneBefore t d i × (parentAt t i ≡ 0)) → NearestBefore t d i (nearest t d i) ⊎ (NoneBefore t d i × (nearest t d i ≡ 0))
+        → parentAt t i ≡ nearest t d i
+    right (inl a) (inl b) = one-nearest t d i _ _ a b
+    right (inl a) (inr b) = absurd (b .0 _ (a .before) (a .depth))
+    right (inr a) (inl b) = absurd (a .0 _ (b .before) (b .depth))
+    right (inr a) (inr b) = a .1 ∙ sym (b .1)
+
+    to : wrongParent t i ≡ true → WrongParent t i
+    to e h = yes-not _ e (eq-eqb (parentAt t i) (nearest t d i) (right h (nearest-found t d i)))
+
+    back : WrongParent t i → wrongParent t i ≡ true
+    back h =
+        not-yes _
+        (λ e.
+        let q : nearest t d i ≡ parentAt t i = sym (eqb-true (parentAt t i) (nearest t d i) e) in
+        h (rw q at (nearest-found t d i)))
 
 -- a number is below the last token's end exactly where there is a last token that ends after it
 pub ends-after : (t : List ℕ) (i x : ℕ) → x < lastEnd t i → EndsAfter t i x

@@ -2,6 +2,7 @@
 --     admitted-tidy    what is true of an admitted table's records
 --     whole-tree       on an admitted table the Forest's records, read in document order, are the table's records, each once, and each one's
 --                      parent in the Forest is the nearest earlier record whose depth is one less
+--     carried-tree     and that is the parent that it carries
 -- Assumes nothing.
 use Prim.Native.Nat.{ℕ, zero, suc, _+_, _-_, _*_, _%_, _≤_, _<_}
 use mathlib.Core.Path.{_≡_, refl, sym, ap, _∙_}
@@ -11,7 +12,7 @@ use mathlib.Core.Logic.{_⊎_, inl, inr, ⊎-elim}
 use native.Mathlib.Omega.{arith}
 use native.Mathlib.Numerals.{add-one}
 use native.Mathlib.Nat.{zero-add, add-zero}
-use borrow.Author.Tests.{eq-eqb, ne-eqb, ltb-false}
+use borrow.Author.Tests.{eq-eqb, ne-eqb, eqb-true, ltb-false}
 use lib.ListN.{length, take, drop}
 use lib.Seq.{take-length}
 use lib.Dec.{eqb, ltb}
@@ -19,11 +20,11 @@ use Rattle.table.specs.declared.record.Rec.{Rec}
 use Rattle.table.specs.declared.check.Verdict.{Verdict}
 use Rattle.table.specs.declared.check.Verdict.the-variants.{Admitted}
 use Rattle.table.specs.Kinds.{isToken, expression, otherToken, arrow}
-use Rattle.table.specs.Table.{recordBytes, count, kindAt, depthAt, startAt, endAt, recordAt, run, from, records}
+use Rattle.table.specs.Table.{recordBytes, count, kindAt, depthAt, startAt, endAt, parentAt, recordAt, run, from, records}
 use Rattle.table.specs.Forest.{Forest, nil, token, node, level, kids, extent}
-use Rattle.table.specs.Rules.{mostRecords, mostDepth, mostSource, verdict, badLength, badSpan, lastEnd}
-use Rattle.table.specs.Exactly.{Node, Token, Broken, broken-1, broken-2, broken-3, broken-4, broken-5, broken-6, MisplacedLater, BadSpan}
-use Rattle.table.specs.Sense.{Tidy, nearest, parentAt, treeOf, Linked, inOrder, byDepth}
+use Rattle.table.specs.Rules.{mostRecords, mostDepth, mostSource, verdict, badLength, nearest, parentOf, badSpan, lastEnd}
+use Rattle.table.specs.Exactly.{Node, Token, Broken, broken-1, broken-2, broken-3, broken-4, broken-5, broken-12, broken-6, MisplacedLater, BadSpan}
+use Rattle.table.specs.Sense.{Tidy, treeOf, Linked, inOrder, byDepth, asCarried}
 use Rattle.table.proofs.Laws.{lt-or-le, eq-or-not, node-or-token, level-shallow, level-deep, level-token, level-node, extent-deep, extent-stop, from-cons}
 use Rattle.table.proofs.Exactly.{admitted-exactly, bad-length, too-long, unlisted-kind, misplaced-first, misplaced-later, too-deep, bad-span, ends-after, clash, token→, token←}
 
@@ -91,6 +92,13 @@ module _ (t : List ℕ) (n m : ℕ) (v : verdict t n m ≡ Admitted) where
   depths : (i : ℕ) → i < count t → depthAt t i ≤ mostDepth
   depths i h = ⊎-elim (λ e. absurd (none 5 i (broken-5 refl h (too-deep t i .1 e)))) (λ e. e) (lt-or-le mostDepth (depthAt t i))
 
+  parents : (i : ℕ) → i < count t → parentAt t i ≡ parentOf t i
+  parents i h = go (eqb (parentAt t i) (parentOf t i)) refl
+    where
+      go : (b : Bool) → eqb (parentAt t i) (parentOf t i) ≡ b → parentAt t i ≡ parentOf t i
+      go true e = eqb-true (parentAt t i) (parentOf t i) e
+      go false e = absurd (none 12 i (broken-12 refl h (rw e)))
+
   module _ (i : ℕ) (h : i < count t) (k : Token (kindAt t i)) where
     spanned : BadSpan t n i → ⊥
     spanned x = none 6 i (broken-6 refl h (bad-span t n i .1 x))
@@ -137,6 +145,7 @@ module _ (t : List ℕ) (n m : ℕ) (v : verdict t n m ≡ Admitted) where
         step = step;
         leaf = leaf;
         depths = depths;
+        parents = parents;
         spans = λ i h k. (forward i h k, within i h k);
         order = λ i j p h a b. omega (arith, ends-before i j p (omega arith) a, after-last j h b);
       }
@@ -174,23 +183,21 @@ module _ (t : List ℕ) (n : ℕ) (w : Tidy t n) where
   past-none k i zero h = refl
   past-none k i (suc c) h = rw (extent-stop k (recordAt t 0 i) (run t 0 (i + 1) c) (h (omega arith)))
 
-  nearest-on : (k i : ℕ) → (depthAt t i ≡ k → ⊥) → nearest t k (i + 1) ≡ nearest t k i
+  nearest-on : (k i : ℕ) → (depthAt t i ≡ k → ⊥) → nearest t (k + 1) (i + 1) ≡ nearest t (k + 1) i
   unfolding nearest
-  nearest-on k i h = rw (add-one i, ne-eqb (depthAt t i) k h)
+  nearest-on k i h = rw (add-one i, ne-eqb (depthAt t i + 1) (k + 1) (λ e. h (omega arith)))
 
-  nearest-here : (k i : ℕ) → depthAt t i ≡ k → nearest t k (i + 1) ≡ i
+  nearest-here : (k i : ℕ) → depthAt t i ≡ k → nearest t (k + 1) (i + 1) ≡ i
   unfolding nearest
-  nearest-here k i h = rw (add-one i, eq-eqb (depthAt t i) k h)
+  nearest-here k i h = rw (add-one i, eq-eqb (depthAt t i + 1) (k + 1) (omega arith))
 
   abbrev linked : ℕ → ℕ → Linked
   linked i p = record { self = recordAt t 0 i; parent = p }
 
   -- record i at the head of the siblings of depth k + 1, and what follows it
-  by-cons : (k i : ℕ) (rs : List Rec) → depthAt t i ≡ k + 1 → byDepth t (recordAt t 0 i ∷ rs) ≡ linked i (nearest t k i) ∷ byDepth t rs
+  by-cons : (k i : ℕ) (rs : List Rec) → depthAt t i ≡ k + 1 → byDepth t (recordAt t 0 i ∷ rs) ≡ linked i (nearest t (k + 1) i) ∷ byDepth t rs
   unfolding byDepth recordAt
-  by-cons k i rs d =
-      let e : depthAt t i - 1 ≡ k = omega arith in
-      rw (zero-add i, e)
+  by-cons k i rs d = rw (zero-add i, d)
 
   in-token : (p i : ℕ) (f : Forest) → inOrder p (token (recordAt t 0 i) f) ≡ linked i p ∷ inOrder p f
   unfolding inOrder
@@ -203,7 +210,7 @@ module _ (t : List ℕ) (n : ℕ) (w : Tidy t n) where
       ap (λ (x : ℕ). linked i p ∷ (inOrder x b ++ inOrder p f)) e
 
   -- the records from i on, one by one
-  module _ (k i p c : ℕ) (z : i + suc c ≡ count t) (q : nearest t k i ≡ p) where
+  module _ (k i p c : ℕ) (z : i + suc c ≡ count t) (q : nearest t (k + 1) i ≡ p) where
     abbrev tail : List Rec
     tail = rest (i + 1) c
 
@@ -213,7 +220,7 @@ module _ (t : List ℕ) (n : ℕ) (w : Tidy t n) where
     abbrev On : ℕ → ℕ → Type 0
     On k p = inOrder p (level (k + 1) tail) ≡ byDepth t (deeper k (past (k + 1) tail))
 
-    at-deep : k + 1 < depthAt t i → (nearest t k (i + 1) ≡ p → On k p) → Tells
+    at-deep : k + 1 < depthAt t i → (nearest t (k + 1) (i + 1) ≡ p → On k p) → Tells
     unfolding recordAt
     at-deep h on =
         rw (level-deep (k + 1) (recordAt t 0 i) tail h, extent-deep (k + 1) (recordAt t 0 i) tail h)
@@ -225,21 +232,21 @@ module _ (t : List ℕ) (n : ℕ) (w : Tidy t n) where
         rw (level-shallow (k + 1) (recordAt t 0 i) tail (omega arith), extent-stop (k + 1) (recordAt t 0 i) tail (omega arith), extent-stop k (recordAt t 0 i) tail h)
 
     module _ (d : depthAt t i ≡ k + 1) where
-      at-token : Token (kindAt t i) → (nearest t k (i + 1) ≡ p → On k p) → Tells
+      at-token : Token (kindAt t i) → (nearest t (k + 1) (i + 1) ≡ p → On k p) → Tells
       unfolding recordAt
       at-token a on =
           let none : past (k + 1) tail ≡ tail = past-none (k + 1) (i + 1) c (λ h. omega (arith, w .leaf i (omega arith) a)) in
           rw (level-token (k + 1) (recordAt t 0 i) tail d (omega (arith, a .0)), extent-stop (k + 1) (recordAt t 0 i) tail (omega arith), extent-deep k (recordAt t 0 i) tail (omega arith), in-token p i (level (k + 1) tail), by-cons k i (deeper k tail) d, q)
           (ap (λ (l : List Linked). linked i p ∷ l) (on (nearest-on k i (λ e. omega arith) ∙ q) ∙ rw none))
 
-      at-node : Node (kindAt t i) → (nearest t k (i + 1) ≡ p → On k p) → (nearest t (k + 1) (i + 1) ≡ i → On (k + 1) i) → Tells
+      at-node : Node (kindAt t i) → (nearest t (k + 1) (i + 1) ≡ p → On k p) → (nearest t (k + 1 + 1) (i + 1) ≡ i → On (k + 1) i) → Tells
       unfolding recordAt
       at-node a on down =
           let none : past (k + 1 + 1) tail ≡ tail = past-none (k + 1 + 1) (i + 1) c (λ h. omega (arith, w .step i (omega arith))) in
           rw (level-node (k + 1) (recordAt t 0 i) tail d a, extent-stop (k + 1) (recordAt t 0 i) tail (omega arith), extent-deep k (recordAt t 0 i) tail (omega arith), in-node p i (level (k + 1 + 1) tail) (level (k + 1) tail), by-cons k i (deeper k tail) d, q, on (nearest-on k i (λ e. omega arith) ∙ q), down (nearest-here (k + 1) i d), none)
           (ap (λ (l : List Linked). linked i p ∷ l) (sym (by-append t (deeper (k + 1) tail) (deeper k (past (k + 1) tail))) ∙ ap (byDepth t) (split k tail)))
 
-  all-below : (c k i p : ℕ) → i + c ≡ count t → nearest t k i ≡ p → inOrder p (level (k + 1) (rest i c)) ≡ byDepth t (deeper k (past (k + 1) (rest i c)))
+  all-below : (c k i p : ℕ) → i + c ≡ count t → nearest t (k + 1) i ≡ p → inOrder p (level (k + 1) (rest i c)) ≡ byDepth t (deeper k (past (k + 1) (rest i c)))
   unfolding run
   all-below zero k i p z q = (unfold level inOrder extent byDepth in refl)
   all-below (suc c) k i p z q =
@@ -293,6 +300,15 @@ module _ (t : List ℕ) (n : ℕ) (w : Tidy t n) where
       let none : inOrder 0 nil ≡ [] = (unfold inOrder in refl) in
       in-node 0 0 (kids (records 0 t)) nil
       ∙ rw (kids-linked, none, append-nil (byDepth t (rest 1 (count t - 1)))) (sym (ap (byDepth t) others ∙ first-linked (rest 1 (count t - 1))))
+
+  carried : (c i : ℕ) → i + c ≡ count t → byDepth t (run t 0 i c) ≡ asCarried t (run t 0 i c)
+  unfolding run byDepth asCarried recordAt
+  carried zero i z = refl
+  carried (suc c) i z = rw (zero-add i, w .parents i (omega arith), carried c (i + 1) (omega arith))
+
+  -- THE THEOREM, of the parents that the records carry
+  pub carried-tree : inOrder 0 (treeOf t) ≡ asCarried t (records 0 t)
+  carried-tree = whole-tree ∙ (unfold from in carried (count t - 0) 0 (omega arith))
 
 -- an admitted table has a record, and few
 pub admitted-sized : (t : List ℕ) (n : ℕ) {v : Verdict} → v ≡ verdict t n 0 → v ≡ Admitted → (0 < count t) × (count t < 4294967296)

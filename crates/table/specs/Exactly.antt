@@ -6,10 +6,10 @@ use mathlib.Core.Bool.{true, cond}
 use mathlib.Core.List.{List}
 use mathlib.Core.Logic.{_⊎_}
 use lib.ListN.{length}
-use lib.Dec.{ltb}
+use lib.Dec.{ltb, eqb}
 use Rattle.table.specs.Kinds.{expression, otherToken, arrow}
-use Rattle.table.specs.Table.{recordBytes, count, kindAt, depthAt, startAt, endAt}
-use Rattle.table.specs.Rules.{mostRecords, mostDepth, mostSource, mostMessage, badLength, tooLong, unlisted, misplaced, tooDeep, badSpan}
+use Rattle.table.specs.Table.{recordBytes, count, kindAt, depthAt, startAt, endAt, parentAt}
+use Rattle.table.specs.Rules.{mostRecords, mostDepth, mostSource, mostMessage, badLength, tooLong, unlisted, misplaced, tooDeep, wrongParent, badSpan}
 
 -- condition k holds with detail d, of the table t, a source of n bytes and a message of m bytes
 pub data Broken (t : List ℕ) (n m k d : ℕ) : Type 0 where
@@ -18,11 +18,16 @@ pub data Broken (t : List ℕ) (n m k d : ℕ) : Type 0 where
   broken-3 : k ≡ 3 → d < count t → unlisted t d ≡ true → Broken t n m k d
   broken-4 : k ≡ 4 → d < count t → misplaced t d ≡ true → Broken t n m k d
   broken-5 : k ≡ 5 → d < count t → tooDeep t d ≡ true → Broken t n m k d
+  broken-12 : k ≡ 12 → d < count t → wrongParent t d ≡ true → Broken t n m k d
   broken-6 : k ≡ 6 → d < count t → badSpan t n d ≡ true → Broken t n m k d
 
--- the place of condition k with detail d in the order: 1, 2, then record by record 3, 4, 5, 6
+-- the place of condition k among those of a record, counted from 3: 3, 4, 5, 12, 6
+unfoldable pub rank : ℕ → ℕ
+rank k = cond (eqb k 12) 6 (cond (eqb k 6) 7 k)
+
+-- the place of condition k with detail d in the order: 1, 2, then record by record 3, 4, 5, 12, 6
 unfoldable pub place : ℕ → ℕ → ℕ
-place k d = cond (ltb k 3) k (4 * d + k)
+place k d = cond (ltb k 3) k (5 * d + rank k)
 
 -- condition k holds with detail d, and none before it in the order does
 pub record Least (t : List ℕ) (n m k d : ℕ) : Type 0 where
@@ -62,6 +67,24 @@ MisplacedLater t i =
 -- 5
 abbrev pub TooDeep : List ℕ → ℕ → Type 0
 TooDeep t i = mostDepth < depthAt t i
+
+-- record p is the nearest before record i whose depth is one less than d
+pub record NearestBefore (t : List ℕ) (d i p : ℕ) : Type 0 where
+  pub before : p < i
+  pub depth : depthAt t p + 1 ≡ d
+  pub nearest : (k : ℕ) → p < k → k < i → depthAt t k + 1 ≡ d → ⊥
+
+-- no record before record i has a depth one less than d
+abbrev pub NoneBefore : List ℕ → ℕ → ℕ → Type 0
+NoneBefore t d i = (k : ℕ) → k < i → depthAt t k + 1 ≡ d → ⊥
+
+-- record p is the parent of record i: the nearest earlier record whose depth is one less
+abbrev pub Parent : List ℕ → ℕ → ℕ → Type 0
+Parent t i p = NearestBefore t (depthAt t i) i p
+
+-- 12: record i carries neither its parent nor, where it has none as record 0 has, 0
+abbrev pub WrongParent : List ℕ → ℕ → Type 0
+WrongParent t i = Parent t i (parentAt t i) ⊎ (NoneBefore t (depthAt t i) i × (parentAt t i ≡ 0)) → ⊥
 
 -- record j is the last token before record i
 pub record LastToken (t : List ℕ) (i j : ℕ) : Type 0 where

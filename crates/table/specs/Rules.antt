@@ -1,4 +1,4 @@
--- When a table is refused, with which number and which detail: document 01's refusals 1 to 6 and 8, in its order.
+-- When a table is refused, with which number and which detail: document 01's refusals 1 to 6 and 8, in its order, and document 02's 12 after 5.
 -- Definitions only.
 use Prim.Native.Nat.{ℕ, zero, suc, _+_, _-_, _/_, _%_}
 use mathlib.Core.Bool.{Bool, false, cond, not, _&&_, _||_}
@@ -8,7 +8,7 @@ use lib.Dec.{ltb, leb, eqb}
 use Rattle.table.specs.declared.check.Verdict.{Verdict}
 use Rattle.table.specs.declared.check.Verdict.the-variants.{Admitted, Refused}
 use Rattle.table.specs.Kinds.{isNode, isToken}
-use Rattle.table.specs.Table.{recordBytes, count, kindAt, depthAt, startAt, endAt}
+use Rattle.table.specs.Table.{recordBytes, count, kindAt, depthAt, startAt, endAt, parentAt}
 
 -- ---- the limits
 abbrev pub mostRecords : ℕ
@@ -25,7 +25,7 @@ mostMessage = 4096
 
 -- ---- the conditions, of the table t, a source of n bytes and a message of m bytes
 
--- 1: table length 0, not a multiple of 16, or over 4,096 records
+-- 1: table length 0, not a multiple of 20, or over 4,096 records
 abbrev pub badLength : List ℕ → Bool
 badLength t = eqb (length t) 0 || not (eqb (length t % recordBytes) 0) || ltb mostRecords (count t)
 
@@ -49,6 +49,19 @@ misplaced t (suc i) =
 abbrev pub tooDeep : List ℕ → ℕ → Bool
 tooDeep t i = ltb mostDepth (depthAt t i)
 
+-- the nearest record before record i whose depth is one less than d, 0 where there is none
+unfoldable pub nearest : List ℕ → ℕ → ℕ → ℕ
+nearest t d zero = 0
+nearest t d (suc i) = cond (eqb (depthAt t i + 1) d) i (nearest t d i)
+
+-- the nearest earlier record whose depth is one less than that of record i; 0 for record 0
+abbrev pub parentOf : List ℕ → ℕ → ℕ
+parentOf t i = nearest t (depthAt t i) i
+
+-- 12: record i carries another number than its parent's
+abbrev pub wrongParent : List ℕ → ℕ → Bool
+wrongParent t i = not (eqb (parentAt t i) (parentOf t i))
+
 -- the end of the last token before record i, 0 where there is none
 unfoldable pub lastEnd : List ℕ → ℕ → ℕ
 lastEnd t zero = 0
@@ -64,6 +77,10 @@ badSpan t n i =
 abbrev pub noRoot : List ℕ → ℕ → Bool
 noRoot t i = not (ltb i (count t) && isNode (kindAt t i))
 
+-- 8, where the question names a record of any kind: record i is not in the table
+abbrev pub noSuchRecord : List ℕ → ℕ → Bool
+noSuchRecord t i = not (ltb i (count t))
+
 -- ---- the rules: each condition with its number and its detail
 
 pub record Rule : Type 0 where
@@ -74,23 +91,27 @@ pub record Rule : Type 0 where
 abbrev pub rule : ℕ → ℕ → Bool → Rule
 rule k d b = record { number = k; detail = d; broken = b }
 
--- of record i: 3, 4, 5, 6
+-- of record i: 3, 4, 5, 12, 6
 abbrev pub rulesAt : List ℕ → ℕ → ℕ → List Rule
 rulesAt t n i =
-    rule 3 i (unlisted t i) ∷ rule 4 i (misplaced t i) ∷ rule 5 i (tooDeep t i) ∷ rule 6 i (badSpan t n i) ∷ []
+    rule 3 i (unlisted t i) ∷ rule 4 i (misplaced t i) ∷ rule 5 i (tooDeep t i) ∷ rule 12 i (wrongParent t i) ∷ rule 6 i (badSpan t n i) ∷ []
 
 -- of c records from record i on, record by record
 unfoldable pub rulesFrom : List ℕ → ℕ → ℕ → ℕ → List Rule
 rulesFrom t n i zero = []
 rulesFrom t n i (suc c) = rulesAt t n i ++ rulesFrom t n (suc i) c
 
--- the order: 1, 2, then record by record 3, 4, 5, 6
+-- the order: 1, 2, then record by record 3, 4, 5, 12, 6
 abbrev pub rules : List ℕ → ℕ → ℕ → List Rule
 rules t n m = rule 1 0 (badLength t) ∷ rule 2 0 (tooLong n m) ∷ rulesFrom t n 0 (count t)
 
 -- then 8, where the question names a root
 abbrev pub rootRules : List ℕ → ℕ → ℕ → List Rule
 rootRules t n i = rules t n 0 ++ rule 8 0 (noRoot t i) ∷ []
+
+-- the same, where it names a record of any kind
+abbrev pub numberRules : List ℕ → ℕ → ℕ → List Rule
+numberRules t n i = rules t n 0 ++ rule 8 0 (noSuchRecord t i) ∷ []
 
 -- ---- the verdict: the first rule that is broken
 abbrev pub first : List Rule → Verdict

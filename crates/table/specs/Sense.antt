@@ -8,9 +8,9 @@ use mathlib.Core.Logic.{_⊎_}
 use lib.ListN.{length}
 use lib.Dec.{eqb}
 use Rattle.table.specs.declared.record.Rec.{Rec}
-use Rattle.table.specs.Table.{recordBytes, count, kindAt, depthAt, startAt, endAt, recordAt, records}
+use Rattle.table.specs.Table.{recordBytes, count, kindAt, depthAt, startAt, endAt, parentAt, recordAt, records}
 use Rattle.table.specs.Forest.{Forest, nil, token, node, kids}
-use Rattle.table.specs.Rules.{mostRecords, mostDepth, mostSource}
+use Rattle.table.specs.Rules.{mostRecords, mostDepth, mostSource, parentOf}
 use Rattle.table.specs.Exactly.{Node, Token}
 
 -- ---- the table
@@ -27,17 +27,9 @@ pub record Tidy (t : List ℕ) (n : ℕ) : Type 0 where
   pub step : (i : ℕ) → i + 1 < count t → depthAt t (i + 1) ≤ depthAt t i + 1
   pub leaf : (i : ℕ) → i + 1 < count t → Token (kindAt t i) → depthAt t (i + 1) ≤ depthAt t i
   pub depths : (i : ℕ) → i < count t → depthAt t i ≤ mostDepth
+  pub parents : (i : ℕ) → i < count t → parentAt t i ≡ parentOf t i
   pub spans : (i : ℕ) → i < count t → Token (kindAt t i) → (startAt t i ≤ endAt t i) × (endAt t i ≤ n)
   pub order : (i j : ℕ) → i < j → j < count t → Token (kindAt t i) → Token (kindAt t j) → endAt t i ≤ startAt t j
-
--- the nearest record before record i whose depth is d, 0 where there is none
-unfoldable pub nearest : List ℕ → ℕ → ℕ → ℕ
-nearest t d zero = 0
-nearest t d (suc i) = cond (eqb (depthAt t i) d) i (nearest t d i)
-
--- the nearest earlier record whose depth is one less than that of record i; record 0 has itself
-abbrev pub parentAt : List ℕ → ℕ → ℕ
-parentAt t i = nearest t (depthAt t i - 1) i
 
 -- ---- the tree
 
@@ -59,4 +51,9 @@ inOrder p (node r below rest) = record { self = r; parent = p } ∷ (inOrder (r 
 -- some records of the table, each with the nearest earlier record whose depth is one less
 unfoldable pub byDepth : List ℕ → List Rec → List Linked
 byDepth t [] = []
-byDepth t (r ∷ rs) = record { self = r; parent = parentAt t (r .index) } ∷ byDepth t rs
+byDepth t (r ∷ rs) = record { self = r; parent = parentOf t (r .index) } ∷ byDepth t rs
+
+-- the same records, each with the parent that it carries
+unfoldable pub asCarried : List ℕ → List Rec → List Linked
+asCarried t [] = []
+asCarried t (r ∷ rs) = record { self = r; parent = parentAt t (r .index) } ∷ asCarried t rs

@@ -1,4 +1,4 @@
--- The tree table: sixteen bytes a record, four 32-bit little-endian numbers, kind, depth, start, end.
+-- The tree table: twenty bytes a record, five 32-bit little-endian numbers, kind, depth, start, end, parent.
 -- Definitions only.
 use Prim.Native.Nat.{ℕ, zero, suc, _+_, _-_, _*_, _/_}
 use mathlib.Core.Bool.{Bool}
@@ -9,7 +9,7 @@ use Rattle.table.specs.declared.record.Rec.{Rec}
 
 -- how many bytes a record has
 abbrev pub recordBytes : ℕ
-recordBytes = 16
+recordBytes = 20
 
 -- a number of four bytes is below this
 abbrev pub wordLimit : ℕ
@@ -23,7 +23,7 @@ word t at = getD t at 0 + getD t (at + 1) 0 * 256 + getD t (at + 2) 0 * 65536 + 
 abbrev pub count : List ℕ → ℕ
 count t = length t / recordBytes
 
--- the four numbers of record i
+-- the five numbers of record i
 abbrev pub kindAt : List ℕ → ℕ → ℕ
 kindAt t i = word t (recordBytes * i)
 
@@ -35,6 +35,9 @@ startAt t i = word t (recordBytes * i + 8)
 
 abbrev pub endAt : List ℕ → ℕ → ℕ
 endAt t i = word t (recordBytes * i + 12)
+
+abbrev pub parentAt : List ℕ → ℕ → ℕ
+parentAt t i = word t (recordBytes * i + 16)
 
 -- record i of t, where t's first record has the number base
 unfoldable pub recordAt : List ℕ → ℕ → ℕ → Rec

@@ -4,13 +4,16 @@ use crate::kinds::is_token;
 use crate::record::RECORD_BYTES;
 use crate::record::Rec;
 use crate::record::kind_at;
+use crate::record::parent_at;
 use crate::record::record_at;
 ghost use mathlib.Core.Path.{_≡_};
+ghost use mathlib.Core.Bool.{not};
 ghost use Prim.Native.Nat.{_+_, _≤_, _<_};
 ghost use lib.ListN.{length};
-ghost use Rattle.table.specs.Table.{count, wordLimit};
+ghost use lib.Dec.{eqb};
+ghost use Rattle.table.specs.Table.{count, parentAt, wordLimit};
 ghost use Rattle.table.specs.Rules.{mostRecords, badLength, tooLong, noRoot, first, rulesFrom, verdict, rootVerdict};
-ghost use Rattle.table.specs.inner.Step.{after, strange, outOfPlace, offSource, stepOf};
+ghost use Rattle.table.specs.inner.Step.{after, strange, outOfPlace, offSource, misfitOf};
 
 // The most records, depth, bytes of a source and bytes of a message.
 pub const MOST_RECORDS: usize = 4096;
@@ -34,9 +37,11 @@ const TOO_DEEP: u32 = 5;
 
 const BAD_SPAN: u32 = 6;
 
+const WRONG_PARENT: u32 = 12;
+
 pub const NO_ROOM: u32 = 7;
 
-const NO_ROOT: u32 = 8;
+pub const NO_ROOT: u32 = 8;
 
 // What the check says of a table.
 pub enum Verdict {
@@ -45,16 +50,13 @@ pub enum Verdict {
     Refused(u32, u32),
 }
 
+// How many depths a record after one may have: 0 to one below the deepest.
+const DEPTHS: usize = MOST_DEPTH + 2;
+
 // What is known before a record: how deep it may be, and the end of the last token.
 pub struct Known {
     pub deepest: usize,
     pub end: usize,
-}
-
-// What a turn of the check finds at a record.
-pub enum Found {
-    Next(Known),
-    Broken(u32),
 }
 
 // Refusal 1: the table has no record, a part of one, or too many.
@@ -90,6 +92,14 @@ fn out_of_place(b: Known, r: Rec) -> bool
     }
 }
 
+// Refusal 12: record i carries another number than its parent's.
+fn strays(table: &[u8], i: usize, parent: usize) -> bool
+    requires { ⌜ i < count (now table) ⌝ }
+    ensures { λ r. ⌜ r ≡ not (eqb (parentAt (now (table .entry)) i) parent) ⌝ }
+{
+    parent_at(table, i) != parent
+}
+
 // Refusal 6: the token has a bad span, for a source of n bytes.
 fn off_source(n: usize, b: Known, r: Rec) -> bool
     ensures { λ x. ⌜ x ≡ offSource n b r ⌝ }
@@ -115,38 +125,46 @@ fn after(b: Known, r: Rec) -> Known
     }
 }
 
-// The first rule that the record r breaks, or what is known after it.
-fn step(n: usize, b: Known, r: Rec) -> Found
-    ensures { λ x. ⌜ x ≡ stepOf n b r ⌝ }
+// The first of 3, 4 and 5 that the record r breaks; 0 where it breaks none.
+fn misfit(b: Known, r: Rec) -> u32
+    ensures { λ x. ⌜ x ≡ misfitOf b r ⌝ }
 {
     if strange(r.kind) {
-        return Found::Broken(UNLISTED_KIND);
+        return UNLISTED_KIND;
     }
     if out_of_place(b, r) {
-        return Found::Broken(MISPLACED);
+        return MISPLACED;
     }
     if MOST_DEPTH < r.depth {
-        return Found::Broken(TOO_DEEP);
+        return TOO_DEEP;
     }
-    if off_source(n, b, r) {
-        return Found::Broken(BAD_SPAN);
-    }
-    Found::Next(after(b, r))
+    0
 }
 
-// Record by record, refusals 3 to 6, for a source of n bytes.
+// Record by record, refusals 3, 4, 5, 12 and 6, for a source of n bytes. `above[d]` is the last record whose depth is one less than d.
 fn check_records(table: &[u8], n: usize) -> Verdict
     requires { ⌜ count (now table) ≤ mostRecords ⌝ }
     ensures { λ r. ⌜ r ≡ first (rulesFrom (now (table .entry)) n 0 (count (now (table .entry)))) ⌝ }
 {
     let m = table.len() / RECORD_BYTES;
     let mut b = Known { deepest: 0, end: 0 };
+    let mut above = [0; DEPTHS];
     let mut i: usize = 0;
     while i < m {
-        match step(n, b, record_at(table, 0, i)) {
-            Found::Broken(k) => return Verdict::Refused(k, i as u32),
-            Found::Next(next) => b = next,
+        let r = record_at(table, 0, i);
+        let k = misfit(b, r);
+        if k != 0 {
+            return Verdict::Refused(k, i as u32);
         }
+        let d = r.depth;
+        if strays(table, i, above[d]) {
+            return Verdict::Refused(WRONG_PARENT, i as u32);
+        }
+        if off_source(n, b, r) {
+            return Verdict::Refused(BAD_SPAN, i as u32);
+        }
+        above[d + 1] = i;
+        b = after(b, r);
         i += 1;
     }
     Verdict::Admitted

@@ -1,11 +1,11 @@
-// A record is sixteen bytes, four 32-bit little-endian numbers: kind, depth, start, end.
+// A record is twenty bytes, five 32-bit little-endian numbers: kind, depth, start, end, parent.
 ghost use mathlib.Core.Path.{_≡_};
 ghost use Prim.Native.Nat.{_+_, _≤_, _<_};
 ghost use lib.ListN.{length};
-ghost use Rattle.table.specs.Table.{word, count, kindAt, depthAt, startAt, endAt, recordAt, wordLimit};
+ghost use Rattle.table.specs.Table.{word, count, kindAt, depthAt, startAt, endAt, parentAt, recordAt, wordLimit};
 
 // How many bytes a record has.
-pub const RECORD_BYTES: usize = 16;
+pub const RECORD_BYTES: usize = 20;
 
 // A number of four bytes is below this.
 pub const WORD_LIMIT: usize = 4294967296;
@@ -75,6 +75,14 @@ pub fn end_at(t: &[u8], i: usize) -> usize
     ensures { λ r. ⌜ (r ≡ endAt (now (t .entry)) i) × (r < wordLimit) ⌝ }
 {
     word_at(t, RECORD_BYTES * i + 12)
+}
+
+// The parent that record i carries.
+pub fn parent_at(t: &[u8], i: usize) -> usize
+    requires { ⌜ i < count (now t) ⌝ }
+    ensures { λ r. ⌜ (r ≡ parentAt (now (t .entry)) i) × (r < wordLimit) ⌝ }
+{
+    word_at(t, RECORD_BYTES * i + 16)
 }
 
 // Record i of t, where t's first record has the number base.

@@ -1,24 +1,16 @@
 -- The climb to the roots around a root: what it knows on the way. A reader of the promise needs none of it.
 -- t is the table's bytes.
 -- Definitions only.
-use Prim.Native.Nat.{ℕ, zero, suc, _+_, _-_, _*_}
+use Prim.Native.Nat.{ℕ, _+_, _-_, _*_}
 use mathlib.Core.Bool.{cond}
 use mathlib.Core.List.{List, [], _∷_}
 use lib.Dec.{ltb, eqb}
-use Rattle.table.specs.Table.{kindAt, depthAt}
+use Rattle.table.specs.Table.{kindAt}
 use Rattle.table.specs.Rules.{mostRecords, mostDepth}
 use Rattle.names.specs.Bindings.{bindingBytes}
 use Rattle.scope.specs.inner.Rows.{ownBytes}
 use Rattle.path.specs.Path.{isSubquery}
 use Rattle.statement.specs.Statement.{isStatement}
-
--- those of the first i records that are less deep than d and than all behind them, nearest first
-unfoldable pub climb : List ℕ → ℕ → ℕ → List ℕ
-climb t d zero = []
-climb t d (suc x) =
-    let up : List ℕ = x ∷ climb t (depthAt t x) x in
-    let on : List ℕ = climb t d x in
-    cond (ltb (depthAt t x) d) up on
 
 -- what is known of the last enclosing root after a node of kind k and number x: 0 nothing, 1 record 0, else the nearest statement's number plus two
 unfoldable pub outerRoot : ℕ → ℕ → ℕ → ℕ

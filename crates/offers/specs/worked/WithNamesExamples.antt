@@ -13,7 +13,8 @@ use Rattle.names.specs.declared.names.NameBinding.{NameBinding}
 use Rattle.names.specs.Names.{isAs, isName, direct, unquoted, nameOf, binding, firstNamed}
 use Rattle.names.specs.Bindings.{entry, boundIn}
 use Rattle.scope.specs.Collection.{nodeGives, collected, collection, ownWith}
-use Rattle.offers.specs.Enclosing.{aboveAmong, queries, someQuery, beyond, statementAmong, lastRoot, rootsAmong, enclosingRoots}
+use Rattle.table.specs.Above.{aboveAmong}
+use Rattle.offers.specs.Enclosing.{queries, someQuery, beyond, statementAmong, lastRoot, rootsAmong, enclosingRoots}
 use Rattle.offers.specs.WithNames.{items, itemsBefore, boundBy, ownSeen, seenOfAll, offeredIn}
 
 -- the names by their place: a at 0, b at 1, c at 2, i at 3, o at 4

@@ -12,7 +12,7 @@ use Rattle.table.specs.Kinds.{file, subqueryExpression}
 use Rattle.table.specs.Table.{word, recordAt, run, from}
 use Rattle.table.specs.Forest.{level, kids, extent, stretchEnd}
 use Rattle.table.specs.Descent.{path, pathOf}
-use Rattle.table.specs.Rules.{rulesFrom, misplaced, lastEnd, badSpan, verdict}
+use Rattle.table.specs.Rules.{rulesFrom, misplaced, nearest, lastEnd, badSpan, verdict}
 use Rattle.table.specs.worked.Worked.{rec}
 use Rattle.statement.specs.Statement.{orElse, firstFind, enclosingAt}
 use Rattle.path.specs.Path.{pathAt, deepestOr}
@@ -26,7 +26,7 @@ over k = rec k 0 0 0 ++ rec subqueryExpression 1 0 0
 -- both are admitted, and record 1 is the cursor's root
 roots : (verdict (over file) 0 0 ≡ Admitted) × (verdict (over subqueryExpression) 0 0 ≡ Admitted)
     × (rootAt (over file) 0 ≡ 1) × (rootAt (over subqueryExpression) 0 ≡ 1)
-unfolding word recordAt run from level kids path pathOf verdict rulesFrom misplaced badSpan lastEnd orElse firstFind enclosingAt deepestOr statementOr rootOf rootAt
+unfolding word recordAt run from level kids path pathOf verdict rulesFrom misplaced nearest badSpan lastEnd orElse firstFind enclosingAt deepestOr statementOr rootOf rootAt
 roots = (refl, refl, refl, refl)
 
 -- record 1 is on both paths

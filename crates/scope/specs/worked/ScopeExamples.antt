@@ -5,16 +5,13 @@ use Prim.Native.Nat.{ℕ}
 use Rattle.table.specs.Kinds.{file, selectStatement, withClause, selectClause, fromClause, joinClause, withExpressionItem, subqueryExpression, columnList, expressionList, tableIdentifier, tableExpression, tableAlias, columnAlias, bareWord, quotedIdentifier}
 use Rattle.table.specs.Table.{word, recordAt, run, from}
 use Rattle.table.specs.Forest.{level, kids, extent, stretchEnd}
+use Rattle.table.specs.worked.Worked.{rec}
 use Rattle.table.specs.Text.{bytesOf, upper, text, says}
 use Rattle.names.specs.Names.{isAs, isPart, isName, direct, unquoted, nameOf, binding, firstNamed, lastNamed}
 use Rattle.scope.specs.Collection.{nodeGives, collected, collection, ownWith, ownColumns, ownTables}
 use Rattle.names.specs.Bindings.{entry, boundIn, bindingRow}
 use Rattle.tables.specs.Tables.{fresh, aliased, handOn, listAlias, tableReading, referenceRow}
 use Rattle.scope.specs.Scope.{withNames, tableAliases, columnAliases, tableRefs}
-
--- a record of kind k, depth d, start a and end e, each below 256
-abbrev rec : ℕ → ℕ → ℕ → ℕ → List ℕ
-rec k d a e = k ∷ 0 ∷ 0 ∷ 0 ∷ d ∷ 0 ∷ 0 ∷ 0 ∷ a ∷ 0 ∷ 0 ∷ 0 ∷ e ∷ 0 ∷ 0 ∷ 0 ∷ []
 
 abbrev none : ℕ
 none = 4294967295

@@ -6,8 +6,6 @@ use mathlib.Core.List.{List}
 use lib.Dec.{ltb, eqb}
 use Rattle.table.specs.declared.record.Rec.{Rec}
 use Rattle.table.specs.declared.check.Known.{Known}
-use Rattle.table.specs.declared.check.Found.{Found}
-use Rattle.table.specs.declared.check.Found.the-variants.{Next, Broken}
 use Rattle.table.specs.Kinds.{isNode, isToken}
 use Rattle.table.specs.Table.{kindAt, depthAt}
 use Rattle.table.specs.Rules.{mostDepth, lastEnd}
@@ -20,6 +18,10 @@ below k d = cond (isToken k) d (d + 1)
 unfoldable pub deepestNext : List ℕ → ℕ → ℕ
 deepestNext t zero = 0
 deepestNext t (suc i) = below (kindAt t i) (depthAt t i)
+
+-- how many depths the record after one may have: 0 to one below the deepest
+abbrev pub depths : ℕ
+depths = 65
 
 -- what is known before record i
 unfoldable pub knownAt : List ℕ → ℕ → Known
@@ -42,11 +44,10 @@ outOfPlace b r =
 unfoldable pub offSource : ℕ → Known → Rec → Bool
 offSource n b r = isToken (r .kind) && (ltb (r .end) (r .start) || ltb n (r .end) || ltb (r .start) (b .end))
 
--- the number of the first rule that a record breaks, or what is known after it
-unfoldable pub stepOf : ℕ → Known → Rec → Found
-stepOf n b r =
-    cond (strange (r .kind)) (Broken 3)
-    (cond (outOfPlace b r) (Broken 4)
-    (cond (ltb mostDepth (r .depth)) (Broken 5)
-    (cond (offSource n b r) (Broken 6)
-    (Next (after b r)))))
+-- the number of the first of 3, 4 and 5 that a record breaks; 0 where it breaks none
+unfoldable pub misfitOf : Known → Rec → ℕ
+misfitOf b r =
+    cond (strange (r .kind)) 3
+    (cond (outOfPlace b r) 4
+    (cond (ltb mostDepth (r .depth)) 5
+    0))

@@ -1,5 +1,5 @@
 -- Worked cases of the check and of lists, computed: document 01's cases marked P that speak of them, and a row for each refusal and each detail.
-use Prim.Native.Nat.{ℕ, zero, suc, _+_, _*_}
+use Prim.Native.Nat.{ℕ, zero, suc, _+_, _-_, _*_}
 use mathlib.Core.Path.{_≡_, refl}
 use mathlib.Core.List.{List, [], _∷_, _++_}
 use lib.ListN.{replicate}
@@ -9,21 +9,25 @@ use Rattle.table.specs.declared.check.Verdict.the-variants.{Admitted, Re
 use Rattle.table.specs.declared.list.Listed.the-variants.{Entries, Refused as Denied}
 use Rattle.table.specs.Kinds.{file, selectStatement, subqueryExpression, expression, otherToken, whitespace, bareWord, arrow}
 use Rattle.table.specs.Table.{word}
-use Rattle.table.specs.Rules.{misplaced, lastEnd, badSpan, rulesFrom, verdict, rootVerdict, rule}
+use Rattle.table.specs.Rules.{misplaced, nearest, lastEnd, badSpan, rulesFrom, verdict, rootVerdict, rule}
 use Rattle.table.specs.Lists.{le4, rowBytes, listBytes, reply, buffer, listed, lent}
 
--- the sixteen bytes of a record
-abbrev pub rec : ℕ → ℕ → ℕ → ℕ → List ℕ
-rec k d s e = le4 k ++ le4 d ++ le4 s ++ le4 e
+-- the twenty bytes of a record that carries the parent p
+abbrev pub child : ℕ → ℕ → ℕ → ℕ → ℕ → List ℕ
+child p k d s e = le4 k ++ le4 d ++ le4 s ++ le4 e ++ le4 p
 
--- n nodes, each below the one before, the first of depth d
+-- of one that carries 0: record 0 and what is just below it, and every record of an example that no check reads
+abbrev pub rec : ℕ → ℕ → ℕ → ℕ → List ℕ
+rec k d s e = child 0 k d s e
+
+-- n nodes, each below the one before, the first of depth and number d
 pub chain : ℕ → ℕ → List ℕ
 chain d zero = []
-chain d (suc n) = rec 0 d 0 0 ++ chain (d + 1) n
+chain d (suc n) = child (d - 1) 0 d 0 0 ++ chain (d + 1) n
 
 -- a root, and below it a token, a node and a token below that
 abbrev small : List ℕ
-small = rec file 0 0 9 ++ rec bareWord 1 0 4 ++ rec selectStatement 1 4294967295 0 ++ rec arrow 2 4 9
+small = rec file 0 0 9 ++ rec bareWord 1 0 4 ++ rec selectStatement 1 4294967295 0 ++ child 2 arrow 2 4 9
 
 -- a case of the check: a table, the lengths of its source and of a message, and the verdict
 record Case : Type 0 where
@@ -45,9 +49,10 @@ cases =
     on small 8 (Refused 6 3) ∷
     -- 1: no bytes, no whole record, over 4,096 records
     on [] 0 (Refused 1 0) ∷
-    on (replicate 15 0) 0 (Refused 1 0) ∷
-    on (replicate 17 0) 0 (Refused 1 0) ∷
-    on (replicate 65552 0) 0 (Refused 1 0) ∷
+    on (replicate 19 0) 0 (Refused 1 0) ∷
+    on (replicate 21 0) 0 (Refused 1 0) ∷
+    on (replicate 48 0) 0 (Refused 1 0) ∷
+    on (replicate 81940 0) 0 (Refused 1 0) ∷
     -- 2: the source, the message; 1 comes before it
     on small 65536 Admitted ∷
     on small 65537 (Refused 2 0) ∷
@@ -69,12 +74,23 @@ cases =
     on (rec file 1 0 0) 0 (Refused 4 0) ∷
     on (rec file 0 0 0 ++ rec file 0 0 0) 0 (Refused 4 1) ∷
     on (rec file 0 0 0 ++ rec bareWord 1 0 0 ++ rec file 2 0 0) 0 (Refused 4 2) ∷
-    on (chain 0 63 ++ rec bareWord 63 0 0 ++ rec file 64 0 0) 0 (Refused 4 64) ∷
+    on (chain 0 63 ++ child 62 bareWord 63 0 0 ++ rec file 64 0 0) 0 (Refused 4 64) ∷
     on (rec file 0 0 0 ++ rec file 257 0 0) 0 (Refused 4 1) ∷
     -- 6: start > end; before the previous token's end, also past a node; a token of no length passes, and node spans hold any numbers
     on (rec file 0 0 0 ++ rec bareWord 1 2 1) 9 (Refused 6 1) ∷
-    on (rec file 0 0 0 ++ rec bareWord 1 0 5 ++ rec file 1 0 0 ++ rec bareWord 2 4 6) 9 (Refused 6 3) ∷
+    on (rec file 0 0 0 ++ rec bareWord 1 0 5 ++ rec file 1 0 0 ++ child 2 bareWord 2 4 6) 9 (Refused 6 3) ∷
     on (rec file 0 9 3 ++ rec bareWord 1 4 4 ++ rec whitespace 1 4 4) 4 Admitted ∷
+    -- 12: record 0 carries 0; a later record the nearest earlier one whose depth is one less, not the record before, not one before the nearest, no later one
+    on (child 1 file 0 0 0) 0 (Refused 12 0) ∷
+    on (rec file 0 0 0 ++ rec bareWord 1 0 0 ++ child 1 bareWord 1 0 0) 0 (Refused 12 2) ∷
+    on (rec file 0 0 0 ++ rec file 1 0 0 ++ rec file 1 0 0 ++ child 1 file 2 0 0) 0 (Refused 12 3) ∷
+    on (rec file 0 0 0 ++ rec file 1 0 0 ++ child 2 file 2 0 0) 0 (Refused 12 2) ∷
+    on (rec file 0 0 0 ++ child 256 file 1 0 0) 0 (Refused 12 1) ∷
+    -- 12 comes after 3, 4 and 5 of one record, and before 6
+    on (rec file 0 0 0 ++ child 9 158 1 0 0) 0 (Refused 3 1) ∷
+    on (rec file 0 0 0 ++ child 9 file 2 0 0) 0 (Refused 4 1) ∷
+    on (chain 0 64 ++ child 9 file 64 0 0) 0 (Refused 5 64) ∷
+    on (rec file 0 0 0 ++ child 9 bareWord 1 2 1) 9 (Refused 12 1) ∷
     []
 
 tells : List Case → List Verdict
@@ -86,13 +102,13 @@ expects [] = []
 expects (c ∷ cs) = c .says ∷ expects cs
 
 the-check : tells cases ≡ expects cases
-unfolding cases tells expects chain verdict rulesFrom misplaced badSpan lastEnd word
+unfolding cases tells expects chain verdict rulesFrom misplaced nearest badSpan lastEnd word
 the-check = refl
 
 -- ---- 8, after 6: a node, a token, no record, and a table that is refused before
 
 roots : rootVerdict small 9 2 ∷ rootVerdict small 9 3 ∷ rootVerdict small 9 4 ∷ rootVerdict small 8 4 ∷ [] ≡ Admitted ∷ Refused 8 0 ∷ Refused 8 0 ∷ Refused 6 3 ∷ []
-unfolding rootVerdict rulesFrom misplaced badSpan lastEnd word
+unfolding rootVerdict rulesFrom misplaced nearest badSpan lastEnd word
 roots = refl
 
 -- ---- 7, after all: two entries of two numbers, in seventeen bytes, sixteen and fifteen, and refused by another rule before

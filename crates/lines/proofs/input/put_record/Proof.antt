@@ -20,7 +20,9 @@ put-record-spec =
     (λ c κs. omega (arith, ap length (c .text-of3 .ensures), text-most (c .before .before .before .before .before .before .before .args .digits .now) 4 12))  -- number-requires-3
     (λ c κs. search needs)  -- text-of-requires-4
     (λ c κs. omega (arith, ap length (c .text-of4 .ensures), text-most (c .before .before .before .before .before .before .before .before .before .args .digits .now) 12 20))  -- number-requires-4
+    (λ c κs. search needs)  -- text-of-requires-5
+    (λ c κs. omega (arith, ap length (c .text-of5 .ensures), text-most (c .before .before .before .before .before .before .before .before .before .before .before .args .digits .now) 20 28))  -- number-requires-5
     (λ c. search needs)  -- slice-aggregate-put-entry
     (λ c κs. search needs)  -- put-entry-requires
     (λ c. search needs)  -- same-length
-    (λ c. rw (← ap hexNumber (c .before .before .before .before .before .before .before .before .before .before .before .before .text-of .ensures), ← c .before .before .before .before .before .before .before .before .before .before .before .number .ensures, ← ap hexNumber (c .before .before .before .before .before .before .before .before .before .before .text-of2 .ensures), ← c .before .before .before .before .before .before .before .before .before .number2 .ensures, ← ap hexNumber (c .before .before .before .before .before .before .before .before .text-of3 .ensures), ← c .before .before .before .before .before .before .before .number3 .ensures, ← ap hexNumber (c .before .before .before .before .before .before .text-of4 .ensures), ← c .before .before .before .before .before .number4 .ensures) (c .before .before .put-entry .ensures .0)))  -- returns
+    (λ c. rw (← ap hexNumber (c .before .before .before .before .before .before .before .before .before .before .before .before .before .before .text-of .ensures), ← c .before .before .before .before .before .before .before .before .before .before .before .before .before .number .ensures, ← ap hexNumber (c .before .before .before .before .before .before .before .before .before .before .before .before .text-of2 .ensures), ← c .before .before .before .before .before .before .before .before .before .before .before .number2 .ensures, ← ap hexNumber (c .before .before .before .before .before .before .before .before .before .before .text-of3 .ensures), ← c .before .before .before .before .before .before .before .before .before .number3 .ensures, ← ap hexNumber (c .before .before .before .before .before .before .before .before .text-of4 .ensures), ← c .before .before .before .before .before .before .before .number4 .ensures, ← ap hexNumber (c .before .before .before .before .before .before .text-of5 .ensures), ← c .before .before .before .before .before .number5 .ensures) (c .before .before .put-entry .ensures .0)))  -- returns

@@ -10,9 +10,9 @@ list-offered-spec =
     (tie.spec
     (λ c. search needs)  -- slice-relend-prefix-collect-offered
     (λ c. search needs)  -- slice-aggregate-collect-offered
-    (λ c κs. omega arith)  -- collect-offered-requires
+    (λ c κs. (omega arith, c .before .before .before .before .pre .1))  -- collect-offered-requires
     (λ c. omega arith)  -- cast-entries
-    (λ c κs. omega arith)  -- collect-offered-requires-2
+    (λ c κs. (omega arith, c .before .before .before .before .before .before .before .before .before .pre .1))  -- collect-offered-requires-2
     (λ c. search needs)  -- same-length
     (λ c. offered-written _ _ _ _ (c .before .before .before .before .before .before .before .collect-offered .ensures .0) (c .before .before .before .before .before .before .before .collect-offered .kept .1 .1 .1 .0) (c .before .before .collect-offered2 .ensures .0) (c .before .before .before .before .if1 .taken))  -- returns
     (λ c. search needs)  -- same-length-2

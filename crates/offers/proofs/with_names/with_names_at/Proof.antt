@@ -1,6 +1,7 @@
 use Rattle.offers.proofs.OfferLaws.{root-shallow}
 use Rattle.table.proofs.Checks.{rules-refused, rules-passed}
 use Rattle.table.proofs.Sense.{admitted-sized}
+use Rattle.table.proofs.Above.{admitted-climbs}
 use Rattle.table.proofs.Writes.{list-refused, list-admitted}
 use Rattle.names.specs.Bindings.{bindingRow}
 use borrow.Author.Needs.{needs}
@@ -16,7 +17,7 @@ with-names-at-spec =
     (λ c. search needs)  -- enum-told
     (λ c κs. admitted-sized _ _ (c .before .before .check .ensures) (c .enum-told .given .1))  -- root-at-requires
     (λ c. search needs)  -- cast-root
-    (λ c κs. root-shallow _ _ _ (c .before .before .before .before .check .ensures) (c .before .before .enum-told .given .1) (c .before .root-at .ensures))  -- list-offered-requires
+    (λ c κs. (root-shallow _ _ _ (c .before .before .before .before .check .ensures) (c .before .before .enum-told .given .1) (c .before .root-at .ensures), admitted-climbs _ _ (c .before .before .before .before .check .ensures) (c .before .before .enum-told .given .1)))  -- list-offered-requires
     (λ c. list-refused bindingRow _ _ _ (rules-refused _ _ _ (c .before .before .before .check .ensures) (c .before .k .given .1)))  -- returns
     (λ c. search needs)  -- same-length
     (λ c. list-admitted bindingRow _ _ _ (rules-passed _ _ _ (c .before .before .before .before .before .before .before .check .ensures) (c .before .before .before .before .before .enum-told .given .1)) (rw (c .before .before .before .before .root-at .ensures) at (c .before .before .list-offered .ensures))))  -- returns-2
