@@ -21,13 +21,14 @@ ghost use Prim.Native.Nat.{_<_};
 ghost use lib.ListN.{length};
 ghost use Rattle.table.specs.Table.{count, wordLimit};
 ghost use Rattle.table.specs.Rules.{verdict};
+ghost use Rattle.table.specs.inner.Ordered.{Ordered};
 ghost use Rattle.path.specs.inner.Gathered.{Within};
 ghost use Rattle.cursor.specs.inner.Steps.{analyzed};
 ghost use Rattle.cursor.specs.CursorContext.{startsAfter, lastRule, contextAt, contextReply};
 
 // The last rule: at the start of a file or after a semicolon a statement starts.
 fn at_statement_start(table: &[u8], source: &[u8], offset: usize) -> CursorContext
-    requires { ⌜ 0 < count (now table) ⌝ }
+    requires { ⌜ (0 < count (now table)) × Ordered (now table) ⌝ }
     ensures { λ r. ⌜ r ≡ lastRule (now (source .entry)) (now (table .entry)) offset ⌝ }
 {
     if kind_at(table, 0) != FILE {
@@ -53,7 +54,7 @@ fn starts_after(source: &[u8], last: Name) -> bool
 
 // The rules in their order: the trailing rule, the path's, the last.
 fn analyze_path(table: &[u8], source: &[u8], offset: usize, path: Gathered) -> CursorContext
-    requires { ⌜ (0 < count (now table)) × Within (count (now table)) path ⌝ }
+    requires { ⌜ (0 < count (now table)) × Within (count (now table)) path × Ordered (now table) ⌝ }
     ensures { λ r. ⌜ r ≡ analyzed (now (source .entry)) (now (table .entry)) offset path ⌝ }
 {
     match check_trailing_clause(table, path.statement, offset) {
@@ -69,7 +70,7 @@ fn analyze_path(table: &[u8], source: &[u8], offset: usize, path: Gathered) -> C
 
 // The context, for a table that is admitted.
 fn context_at(table: &[u8], source: &[u8], offset: usize) -> CursorContext
-    requires { ⌜ (0 < count (now table)) × (count (now table) < wordLimit) ⌝ }
+    requires { ⌜ (0 < count (now table)) × (count (now table) < wordLimit) × Ordered (now table) ⌝ }
     ensures { λ r. ⌜ r ≡ contextAt (now (source .entry)) (now (table .entry)) offset ⌝ }
 {
     let path = find_node_path(table, offset);

@@ -24,12 +24,14 @@ ghost use mathlib.Core.Path.{_≡_};
 ghost use Prim.Native.Nat.{ℕ, _<_};
 ghost use Rattle.table.specs.Table.{count, kindAt, records};
 ghost use Rattle.table.specs.Forest.{kids};
+ghost use Rattle.table.specs.inner.Ordered.{Ordered};
 ghost use Rattle.tokens.specs.LastToken.{lastTwo, dotted};
 ghost use Rattle.cursor.specs.inner.Steps.{givenBy};
 ghost use Rattle.cursor.specs.PathRules.{tableReference, columnOr, column, joined, functionArgument};
 
 // TableReference, with a prefix after a dot.
 fn table_ref_or_dot(s: &[u8], source: &[u8], offset: usize) -> CursorContext
+    requires { ⌜ Ordered (now s) ⌝ }
     ensures { λ r. ⌜ ((base : ℕ) → r ≡ tableReference (now (source .entry)) offset (kids (records base (now (s .entry))))) ⌝ }
 {
     let two = token_before_offset(s, offset);
@@ -40,6 +42,7 @@ fn table_ref_or_dot(s: &[u8], source: &[u8], offset: usize) -> CursorContext
 
 // ColumnOfTable after a dot, else the other.
 fn check_dot_access(s: &[u8], source: &[u8], offset: usize, other: CursorContext) -> CursorContext
+    requires { ⌜ Ordered (now s) ⌝ }
     ensures { λ r. ⌜ ((base : ℕ) → r ≡ columnOr other (dotted (now (source .entry)) (lastTwo offset (kids (records base (now (s .entry))))))) ⌝ }
 {
     let two = token_before_offset(s, offset);
@@ -51,6 +54,7 @@ fn check_dot_access(s: &[u8], source: &[u8], offset: usize, other: CursorContext
 
 // After ON or USING and in a JoinConstraint an expression, else as FROM.
 fn join_context(s: &[u8], source: &[u8], offset: usize, constrained: bool) -> CursorContext
+    requires { ⌜ Ordered (now s) ⌝ }
     ensures { λ r. ⌜ ((base : ℕ) → r ≡ joined (now (source .entry)) offset constrained (kids (records base (now (s .entry))))) ⌝ }
 {
     let two = token_before_offset(s, offset);
@@ -64,6 +68,7 @@ fn join_context(s: &[u8], source: &[u8], offset: usize, constrained: bool) -> Cu
 
 // FunctionArgument, with the function's name and the argument's index.
 fn function_argument(s: &[u8], offset: usize) -> CursorContext
+    requires { ⌜ Ordered (now s) ⌝ }
     ensures { λ r. ⌜ ((base : ℕ) → r ≡ functionArgument offset (kids (records base (now (s .entry))))) ⌝ }
 {
     CursorContext::FunctionArgument {
@@ -74,7 +79,7 @@ fn function_argument(s: &[u8], offset: usize) -> CursorContext
 
 // ColumnOfTable after a dot, else by the kind of the node that begins the stretch s.
 fn column_context(s: &[u8], source: &[u8], offset: usize) -> CursorContext
-    requires { ⌜ 0 < count (now s) ⌝ }
+    requires { ⌜ (0 < count (now s)) × Ordered (now s) ⌝ }
     ensures { λ r. ⌜ ((base : ℕ) → r ≡ column (now (source .entry)) offset (kindAt (now (s .entry)) 0) (kids (records base (now (s .entry))))) ⌝ }
 {
     if kind_at(s, 0) == SELECT_CLAUSE {
@@ -91,7 +96,7 @@ pub fn rule_context(
     rule: usize,
     constrained: bool,
 ) -> CursorContext
-    requires { ⌜ 0 < count (now s) ⌝ }
+    requires { ⌜ (0 < count (now s)) × Ordered (now s) ⌝ }
     ensures { λ r. ⌜ ((base : ℕ) → r ≡ givenBy (now (source .entry)) offset constrained rule (kindAt (now (s .entry)) 0)
         (kids (records base (now (s .entry))))) ⌝ }
 {

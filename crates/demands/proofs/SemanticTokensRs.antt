@@ -22,12 +22,12 @@ use Rattle.scope.specs.declared.semantic_tokens.TokenClass.the-variants.{Keywor
 use Rattle.scope.specs.declared.semantic_tokens.ClassedToken.{ClassedToken}
 use Rattle.keywords.specs.Keywords.{isKeyword}
 use Rattle.scope.specs.Classes.{classesOf, between, judged, bareword, byParent, classOf, numberOf, entryOf, classes}
+use Rattle.table.proofs.Orders.{tidy-ordered}
 use Rattle.table.proofs.Sense.{admitted-tidy, whole-tree}
 use Rattle.keywords.proofs.KeywordLaws.{not-keyword}
 use Rattle.path.specs.Path.{oneOf}
 use Rattle.demands.specs.SemanticTokensRs.{«is_keyword», «classify_identifier_by_parent», tables, «classify_bareword», operators, «classify_token», pushClass, «collect_tokens», insert, sortByStart, compute, SemanticTokensRs}
 use Rattle.demands.proofs.KindLists.{kindsFrom, range-list}
-use Rattle.demands.proofs.Starts.{later}
 
 -- a class as the Rust tells it
 unfoldable numbered : TokenClass → Option ℕ
@@ -252,7 +252,7 @@ module _ (source : List ℕ) where
     unfolding run byDepth Ascending recordAt
     run-ascending zero i b z h = tt
     run-ascending (suc n) i b z h =
-        (h i (omega arith) (omega arith), go (isNode (kindAt t i)) refl (run-ascending n (i + 1) b (omega arith) (λ j x y k. h j (omega arith) y k)) (λ k. run-ascending n (i + 1) (startAt t i) (omega arith) (λ j x y g. later tidy i j (omega arith) y k g)))
+        (h i (omega arith) (omega arith), go (isNode (kindAt t i)) refl (run-ascending n (i + 1) b (omega arith) (λ j x y k. h j (omega arith) y k)) (λ k. run-ascending n (i + 1) (startAt t i) (omega arith) (λ j x y g. tidy-ordered tidy .starts i j (omega arith) y k g)))
       where
         go : (c : Bool) → isNode (kindAt t i) ≡ c → Ascending b (byDepth t (run t 0 (i + 1) n)) → (lastNode < kindAt t i → Ascending (startAt t i) (byDepth t (run t 0 (i + 1) n)))
             → Ascending (cond c b (startAt t i)) (byDepth t (run t 0 (i + 1) n))

@@ -2,7 +2,6 @@
 --     Rises, inside-rises      behind a token, no token among its later siblings and below them starts earlier: so a loop may return there
 --     Rooted, inside-rooted    what is below a node is what the table has inside it
 --     inside-all               one law for what is so of every level of a table's tree
---     later                    a later token starts no earlier
 --     fold-late                a reading of tokens that counts none of them changes nothing
 -- Assumes nothing.
 use Prim.Native.Nat.{ℕ, zero, suc, _+_, _-_, _≤_, _<_}
@@ -16,9 +15,9 @@ use Rattle.table.specs.declared.record.Rec.{Rec}
 use Rattle.table.specs.Kinds.{lastNode}
 use Rattle.table.specs.Table.{count, kindAt, depthAt, startAt, recordAt, run, from}
 use Rattle.table.specs.Forest.{Forest, nil, token, node, level, kids, inside}
-use Rattle.table.specs.Exactly.{Token}
 use Rattle.table.specs.Sense.{Tidy}
 use Rattle.table.specs.inner.Scan.{fold, ofTokens}
+use Rattle.table.proofs.Orders.{tidy-ordered}
 use Rattle.table.proofs.Laws.{lt-or-le, node-or-token, level-shallow, level-deep, level-token, level-node, from-cons, from-end}
 
 -- every token among siblings and below them starts at b or later
@@ -96,14 +95,6 @@ module _ (t : List ℕ) (P : ℕ → Forest → Type 0)
 -- ---- the trees of an admitted table
 
 module _ {t : List ℕ} {n : ℕ} (tidy : Tidy t n) where
-  token-of : (i : ℕ) → i < count t → lastNode < kindAt t i → Token (kindAt t i)
-  token-of i h k = ⊎-elim (λ x. absurd (omega arith)) (λ x. x) (tidy .kinds i h)
-
-  -- a later token starts no earlier
-  pub later : (i j : ℕ) → i < j → j < count t → lastNode < kindAt t i → lastNode < kindAt t j → startAt t i ≤ startAt t j
-  later i j p g k l =
-      omega (arith, tidy .order i j p g (token-of i (omega arith) k) (token-of j g l), tidy .spans i (omega arith) (token-of i (omega arith) k) .0)
-
   -- of what stands from record i on
   record Sound (i : ℕ) (f : Forest) : Type 0 where
     rooted : Rooted t f
@@ -122,7 +113,7 @@ module _ {t : List ℕ} {n : ℕ} (tidy : Tidy t n) where
   at-token i f h k s =
       record {
         rooted = s .rooted;
-        rises = (s .since (startAt t i) (λ j p q l. later i j (omega arith) q k l), s .rises);
+        rises = (s .since (startAt t i) (λ j p q l. tidy-ordered tidy .starts i j (omega arith) q k l), s .rises);
         since = λ b w. (w i (omega arith) h k, s .since b (λ j p q l. w j (omega arith) q l));
       }
 

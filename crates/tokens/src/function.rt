@@ -16,6 +16,7 @@ ghost use mathlib.Core.Path.{_≡_};
 ghost use Prim.Native.Nat.{ℕ, _<_};
 ghost use Rattle.table.specs.Table.{count, records};
 ghost use Rattle.table.specs.Forest.{kids};
+ghost use Rattle.table.specs.inner.Ordered.{Ordered};
 ghost use Rattle.tokens.specs.Function.{bareWordIn, functionName, arguments};
 ghost use Rattle.tokens.specs.inner.Turns.{nameAt, namingAt};
 
@@ -32,7 +33,7 @@ pub enum Naming {
 }
 
 // The range of record i, as a name.
-fn token_at(s: &[u8], i: usize) -> Name
+pub fn token_at(s: &[u8], i: usize) -> Name
     requires { ⌜ i < count (now s) ⌝ }
     ensures { λ r. ⌜ r ≡ nameAt (now (s .entry)) i ⌝ }
 {
@@ -101,6 +102,7 @@ pub fn extract_function_name(s: &[u8]) -> Name
 
 // The index of the argument that the offset is in, below the first record of the stretch s.
 pub fn count_commas_before(s: &[u8], offset: usize) -> usize
+    requires { ⌜ Ordered (now s) ⌝ }
     ensures { λ r. ⌜ ((base : ℕ) → r ≡ arguments offset (kids (records base (now (s .entry)))) .index) ⌝ }
 {
     let swept = sweep(s, offset, Sought::ArgumentIndex);

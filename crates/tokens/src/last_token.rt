@@ -1,4 +1,5 @@
 // The last token at an offset, and what it says: dotted, ON, USING.
+use crate::function::token_at;
 use crate::sweep::Sought;
 use crate::sweep::sweep;
 use table::range::Range;
@@ -6,11 +7,13 @@ use table::text::says;
 use table::text::text_of;
 ghost use mathlib.Core.Path.{_≡_};
 ghost use mathlib.Core.List.{[], _∷_};
-ghost use Prim.Native.Nat.{ℕ};
-ghost use Rattle.table.specs.Table.{records};
+ghost use Prim.Native.Nat.{ℕ, _-_, _≤_};
+ghost use Rattle.table.specs.Table.{count, records};
 ghost use Rattle.table.specs.Forest.{kids};
+ghost use Rattle.table.specs.inner.Ordered.{Ordered};
 ghost use Rattle.table.specs.Text.{same};
 ghost use Rattle.tokens.specs.LastToken.{lastTwo, isText, isWord, dotted, isJoinWord};
+ghost use Rattle.tokens.specs.inner.Turns.{tokenOf};
 
 // A name's range, or none.
 pub enum Name {
@@ -54,12 +57,27 @@ fn is_word(source: &[u8], token: Name, word: &[u8]) -> bool
     }
 }
 
+// The token of this number, 0 for none.
+fn token_of(s: &[u8], i: usize) -> Name
+    requires { ⌜ i ≤ count (now s) - 1 ⌝ }
+    ensures { λ r. ⌜ r ≡ tokenOf (now (s .entry)) i ⌝ }
+{
+    if i == 0 {
+        return Name::Nameless;
+    }
+    token_at(s, i)
+}
+
 // The last token at or before the offset below the first record of the stretch s, and the one before it.
 pub fn token_before_offset(s: &[u8], offset: usize) -> LastTwo
+    requires { ⌜ Ordered (now s) ⌝ }
     ensures { λ r. ⌜ ((base : ℕ) → r ≡ lastTwo offset (kids (records base (now (s .entry))))) ⌝ }
 {
     let swept = sweep(s, offset, Sought::LastToken);
-    swept.two
+    LastTwo {
+        last: token_of(s, swept.last),
+        before: token_of(s, swept.before),
+    }
 }
 
 // The name before a dot, where the last token is one.

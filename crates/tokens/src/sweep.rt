@@ -1,7 +1,5 @@
 // The reading of a stretch's tokens in document order: one loop, for whatever is sought of them.
 use crate::function::Arguments;
-use crate::last_token::LastTwo;
-use crate::last_token::Name;
 use table::kinds::AGGREGATE_FUNCTION;
 use table::kinds::COMMA;
 use table::kinds::COMMENT;
@@ -9,7 +7,6 @@ use table::kinds::FUNCTION_CALL;
 use table::kinds::OPENING_ROUND;
 use table::kinds::WHITESPACE;
 use table::kinds::is_node;
-use table::range::Range;
 use table::record::count_of;
 use table::record::depth_at;
 use table::record::end_at;
@@ -18,11 +15,12 @@ use table::record::start_at;
 use table::stretch::reach_below;
 ghost use mathlib.Core.Path.{_≡_};
 ghost use mathlib.Core.Bool.{cond};
-ghost use Prim.Native.Nat.{ℕ, _+_, _≤_, _<_};
-ghost use Rattle.table.specs.Table.{records};
+ghost use Prim.Native.Nat.{ℕ, _+_, _-_, _≤_, _<_};
+ghost use Rattle.table.specs.Table.{count, records};
 ghost use Rattle.table.specs.Forest.{kids};
+ghost use Rattle.table.specs.inner.Ordered.{Ordered};
 ghost use Rattle.tokens.specs.Function.{argued};
-ghost use Rattle.tokens.specs.inner.Turns.{countsFor, entersFor, turned, swept};
+ghost use Rattle.tokens.specs.inner.Turns.{countsFor, entersFor, movedTo, meant, swept};
 
 // What is sought: the last token at an offset, or the index of the argument there.
 pub enum Sought {
@@ -30,18 +28,17 @@ pub enum Sought {
     ArgumentIndex,
 }
 
-// What was read so far, of either.
+// What was read so far, of either. A token is told by its record's number, 0 for none.
 pub struct Swept {
-    pub two: LastTwo,
+    pub last: usize,
+    pub before: usize,
     pub arguments: Arguments,
 }
 
 // Nothing is read yet.
 const NOTHING_READ: Swept = Swept {
-    two: LastTwo {
-        last: Name::Nameless,
-        before: Name::Nameless,
-    },
+    last: 0,
+    before: 0,
     arguments: Arguments {
         met: false,
         index: 0,
@@ -89,43 +86,37 @@ fn argue(a: Arguments, kind: usize) -> Arguments
     a
 }
 
-// What a token of this kind and span makes of what was read, if it counts.
-fn turn(sought: Sought, offset: usize, w: Swept, kind: usize, start: usize, end: usize) -> Swept
-    requires { ⌜ w .arguments .index < 1152921504606846976 ⌝ }
-    ensures { λ r. ⌜ (r ≡ cond (countsFor sought offset kind start) (turned sought w kind start end) w)
-        × (r .arguments .index ≤ w .arguments .index + 1) ⌝ }
+// What token i of this kind and start makes of what was read, if it counts.
+fn turn(sought: Sought, offset: usize, w: Swept, kind: usize, start: usize, i: usize) -> Swept
+    requires { ⌜ (w .arguments .index < 1152921504606846976) × (w .last ≤ i) × (w .before ≤ i) ⌝ }
+    ensures { λ r. ⌜ (r ≡ cond (countsFor sought offset kind start) (movedTo sought w kind i) w)
+        × (r .arguments .index ≤ w .arguments .index + 1) × (r .last ≤ i) × (r .before ≤ i) ⌝ }
 {
     if !counts(sought, offset, kind, start) {
         return w;
     }
-    let two = w.two;
     let arguments = w.arguments;
     match sought {
-        Sought::LastToken => {
-            let before = two.last;
-            let last = Name::Named(Range {
-                start: start,
-                end: end,
-            });
-            Swept {
-                two: LastTwo {
-                    last: last,
-                    before: before,
-                },
-                arguments: arguments,
-            }
-        }
+        Sought::LastToken => Swept {
+            last: i,
+            before: w.last,
+            arguments: arguments,
+        },
         Sought::ArgumentIndex => Swept {
-            two: two,
+            last: w.last,
+            before: w.before,
             arguments: argue(arguments, kind),
         },
     }
 }
 
 // What is sought, below the first record of the stretch s. `reach` is how deep the next record may be, so that what stands
-// in a node that is not gone into is passed over.
+// in a node that is not gone into is passed over. The first token that starts after the offset ends it, also where it stands
+// in such a node: tokens start in order, so none behind it counts. A node does not end it, since its span may hold any numbers.
 pub fn sweep(s: &[u8], offset: usize, sought: Sought) -> Swept
-    ensures { λ r. ⌜ ((base : ℕ) → r ≡ swept sought offset (kids (records base (now (s .entry))))) ⌝ }
+    requires { ⌜ Ordered (now s) ⌝ }
+    ensures { λ r. ⌜ ((base : ℕ) → meant (now (s .entry)) r ≡ swept sought offset (kids (records base (now (s .entry)))))
+        × (r .last ≤ count (now (s .entry)) - 1) × (r .before ≤ count (now (s .entry)) - 1) ⌝ }
 {
     let mut w = NOTHING_READ;
     let m = count_of(s);
@@ -140,20 +131,23 @@ pub fn sweep(s: &[u8], offset: usize, sought: Sought) -> Swept
         if d < k {
             return w;
         }
-        if reach < d {
-            i += 1;
-        } else {
-            let kind = kind_at(s, i);
-            let start = start_at(s, i);
-            let end = end_at(s, i);
-            if is_node(kind) {
-                reach = reach_below(d, enters(sought, offset, kind, start, end));
+        let kind = kind_at(s, i);
+        let start = start_at(s, i);
+        if !is_node(kind) {
+            if offset < start {
+                return w;
+            } else if reach < d {
                 i += 1;
             } else {
-                w = turn(sought, offset, w, kind, start, end);
+                w = turn(sought, offset, w, kind, start, i);
                 reach = d;
                 i += 1;
             }
+        } else if reach < d {
+            i += 1;
+        } else {
+            reach = reach_below(d, enters(sought, offset, kind, start, end_at(s, i)));
+            i += 1;
         }
     }
     w

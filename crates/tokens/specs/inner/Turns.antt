@@ -12,6 +12,7 @@ use Rattle.table.specs.Kinds.{openingRound, bareWord, identifier}
 use Rattle.tokens.specs.declared.last_token.Name.{Name}
 use Rattle.tokens.specs.declared.last_token.Name.the-variants.{Nameless, Named}
 use Rattle.tokens.specs.declared.last_token.LastTwo.{LastTwo}
+use Rattle.tokens.specs.declared.function.Arguments.{Arguments}
 use Rattle.tokens.specs.declared.function.Naming.{Naming}
 use Rattle.tokens.specs.declared.function.Naming.the-variants.{Open, Is}
 use Rattle.tokens.specs.declared.sweep.Sought.{Sought}
@@ -36,24 +37,46 @@ unfoldable pub entersFor : Sought → ℕ → ℕ → ℕ → ℕ → Bool
 entersFor LastToken o k s e = entered o s e
 entersFor ArgumentIndex o k s e = opens k s e
 
--- what a token that counts makes of what was read
-unfoldable pub turned : Sought → Swept → ℕ → ℕ → ℕ → Swept
-turned LastToken w k s e = record { two = pushed (w .two) s e; arguments = w .arguments }
-turned ArgumentIndex w k s e = record { two = w .two; arguments = argued (w .arguments) k }
+-- what is found in a reading: the last two tokens, and the argument's index
+pub record Findings : Type 0 where
+  pub two : LastTwo
+  pub arguments : Arguments
 
--- nothing is read yet
-abbrev pub nothingRead : Swept
-nothingRead = record { two = record { last = Nameless; before = Nameless }; arguments = record { met = false; index = 0 } }
+-- what a token that counts makes of what was found
+unfoldable pub turned : Sought → Findings → ℕ → ℕ → ℕ → Findings
+turned LastToken f k s e = record { two = pushed (f .two) s e; arguments = f .arguments }
+turned ArgumentIndex f k s e = record { two = f .two; arguments = argued (f .arguments) k }
 
--- what is read of the tokens that count and are reached
-unfoldable pub swept : Sought → ℕ → Forest → Swept
+-- nothing is found yet
+abbrev pub nothingFound : Findings
+nothingFound = record { two = record { last = Nameless; before = Nameless }; arguments = record { met = false; index = 0 } }
+
+-- what is found in the tokens that count and are reached
+unfoldable pub swept : Sought → ℕ → Forest → Findings
 swept x o f =
-    along (λ w r. turned x w (r .kind) (r .start) (r .end)) nothingRead
+    along (λ w r. turned x w (r .kind) (r .start) (r .end)) nothingFound
     (reached (λ r. countsFor x o (r .kind) (r .start)) (λ r. entersFor x o (r .kind) (r .start) (r .end)) f)
+
+-- ---- what the loop carries: a token by its record's number, 0 for none
 
 -- the range of record i as a name
 unfoldable pub nameAt : List ℕ → ℕ → Name
 nameAt s i = Named (record { start = startAt s i; end = endAt s i })
+
+-- the token of that number
+unfoldable pub tokenOf : List ℕ → ℕ → Name
+tokenOf s i = cond (eqb i 0) Nameless (nameAt s i)
+
+-- what the loop's numbers stand for
+unfoldable pub meant : List ℕ → Swept → Findings
+meant s w = record { two = record { last = tokenOf s (w .last); before = tokenOf s (w .before) }; arguments = w .arguments }
+
+-- what token i of kind k, which counts, makes of them
+unfoldable pub movedTo : Sought → Swept → ℕ → ℕ → Swept
+movedTo LastToken w k i = record { last = i; before = w .last; arguments = w .arguments }
+movedTo ArgumentIndex w k i = record { last = w .last; before = w .before; arguments = argued (w .arguments) k }
+
+-- ---- the function's name
 
 -- a name that is there is the function's
 unfoldable pub naming : Name → Naming

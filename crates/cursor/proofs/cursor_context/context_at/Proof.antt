@@ -10,5 +10,5 @@ context-at-spec =
     tie.close
     (tie.spec
     (λ c κs. omega arith)  -- find-node-path-requires
-    (λ c κs. (omega arith, c .find-node-path .ensures .1))  -- analyze-path-requires
+    (λ c κs. (omega arith, c .find-node-path .ensures .1, c .before .before .before .pre .2))  -- analyze-path-requires
     (λ c. c .analyze-path .ensures ∙ rw (c .before .find-node-path .ensures .0) (analyzed-context _ _ _)))  -- returns

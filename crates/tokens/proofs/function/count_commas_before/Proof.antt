@@ -1,5 +1,5 @@
 use Rattle.tokens.specs.declared.function.Arguments.{Arguments}
-use Rattle.tokens.specs.declared.sweep.Swept.{Swept}
+use Rattle.tokens.specs.inner.Turns.{Findings, meant}
 use Rattle.tokens.proofs.Tokens.{swept-arguments}
 use mathlib.Core.Path.{ap, _∙_}
 use borrow.Author.Needs.{needs}
@@ -7,8 +7,9 @@ use Rattle.tokens.proofs.function.count_commas_before.Statement.{statem
 use Rattle.tokens.proofs.function.count_commas_before.Tie as tie
 
 pub count-commas-before-spec : {M : Type 1} → statement M
+unfolding meant
 count-commas-before-spec =
     tie.close
     (tie.spec
     (λ c κs. search needs)  -- sweep-requires
-    (λ c. λ base. ap (λ (w : Swept). w .arguments .index) (c .sweep .ensures base) ∙ ap (λ (a : Arguments). a .index) (swept-arguments _ _)))  -- returns
+    (λ c. λ base. ap (λ (f : Findings). f .arguments .index) (c .sweep .ensures .0 base) ∙ ap (λ (a : Arguments). a .index) (swept-arguments _ _)))  -- returns

@@ -1,4 +1,4 @@
-use Rattle.tokens.specs.declared.sweep.Swept.{Swept}
+use Rattle.tokens.specs.inner.Turns.{Findings, meant}
 use Rattle.tokens.proofs.Tokens.{swept-two}
 use mathlib.Core.Path.{ap, _∙_}
 use borrow.Author.Needs.{needs}
@@ -6,8 +6,11 @@ use Rattle.tokens.proofs.last_token.token_before_offset.Statement.{stat
 use Rattle.tokens.proofs.last_token.token_before_offset.Tie as tie
 
 pub token-before-offset-spec : {M : Type 1} → statement M
+unfolding meant
 token-before-offset-spec =
     tie.close
     (tie.spec
     (λ c κs. search needs)  -- sweep-requires
-    (λ c. λ base. ap (λ (w : Swept). w .two) (c .before .sweep .ensures base) ∙ swept-two _ _))  -- returns
+    (λ c κs. search needs)  -- token-of-requires
+    (λ c κs. search needs)  -- token-of-requires-2
+    (λ c. λ base. rw (c .before .token-of .ensures, c .token-of2 .ensures) (ap (λ (f : Findings). f .two) (c .before .before .sweep .ensures .0 base) ∙ swept-two _ _)))  -- returns

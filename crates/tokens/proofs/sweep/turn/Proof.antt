@@ -1,4 +1,4 @@
-use Rattle.tokens.specs.inner.Turns.{turned}
+use Rattle.tokens.specs.inner.Turns.{movedTo}
 use borrow.Author.Tests.{not-true, not-false}
 use borrow.Author.Needs.{needs}
 use native.Mathlib.Omega.{arith}
@@ -6,14 +6,14 @@ use Rattle.tokens.proofs.sweep.turn.Statement.{statement}
 use Rattle.tokens.proofs.sweep.turn.Tie as tie
 
 pub turn-spec : {M : Type 1} → statement M
-unfolding turned
+unfolding movedTo
 turn-spec =
     tie.close
     (tie.spec
     (λ c κs. search needs)  -- counts-requires
-    (λ c. (rw (← c .before .counts .ensures, not-true (c .before .counts .result) (c .if1 .taken)), omega arith))  -- returns
+    (λ c. (rw (← c .before .counts .ensures, not-true (c .before .counts .result) (c .if1 .taken)), omega arith, omega arith, omega arith))  -- returns
     (λ c. search needs)  -- enum-told
     (λ c. search needs)  -- enum-told-2
     (λ c κs. search needs)  -- argue-requires
-    (λ c. (rw (← c .before .before .before .before .before .counts .ensures, not-false (c .before .before .before .before .before .counts .result) (c .before .before .before .before .if1 .left), c .enum-told .given .1), omega arith))  -- returns-2
-    (λ c. (rw (← c .before .before .before .before .before .before .counts .ensures, not-false (c .before .before .before .before .before .before .counts .result) (c .before .before .before .before .before .if1 .left), c .before .enum-told2 .given .1, c .argue .ensures .0), c .argue .ensures .1)))  -- returns-3
+    (λ c. (rw (← c .before .before .before .before .counts .ensures, not-false (c .before .before .before .before .counts .result) (c .before .before .before .if1 .left), c .enum-told .given .1), omega arith, omega arith, omega arith))  -- returns-2
+    (λ c. (rw (← c .before .before .before .before .before .counts .ensures, not-false (c .before .before .before .before .before .counts .result) (c .before .before .before .before .if1 .left), c .before .enum-told2 .given .1, c .argue .ensures .0), c .argue .ensures .1, omega arith, omega arith)))  -- returns-3
