@@ -116,7 +116,7 @@ take-run t base i (suc x) (suc n) h = ap (λ (l : List Rec). recordAt t base i �
 suc-plus : (i m : ℕ) → i + suc m ≡ i + 1 + m
 suc-plus i m = omega arith
 
-run-same : (t u : List ℕ) (b c i j n : ℕ) → ((m : ℕ) → m < n → recordAt t b (i + m) ≡ recordAt u c (j + m)) → run t b i n ≡ run u c j n
+pub run-same : (t u : List ℕ) (b c i j n : ℕ) → ((m : ℕ) → m < n → recordAt t b (i + m) ≡ recordAt u c (j + m)) → run t b i n ≡ run u c j n
 unfolding run
 run-same t u b c i j zero h = refl
 run-same t u b c i j (suc n) h =
