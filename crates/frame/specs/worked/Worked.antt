@@ -72,9 +72,9 @@ chain d zero = []
 chain d (suc n) =
     bytesOf "00" ++ glyph (d / 16) ∷ glyph (d % 16) ∷ bytesOf "0000000000000000000000" ++ glyph ((d - 1) / 16) ∷ glyph ((d - 1) % 16) ∷ lf ∷ chain (suc d) n
 
--- a frame of such nodes
-abbrev deep : ℕ → List String → Case
-deep n prints = record { input = ended ("" ∷ "00000000" ∷ []) ++ chain 0 n; prints = ended prints }
+-- a frame of such nodes, with further records behind them
+abbrev deep : ℕ → List String → List String → Case
+deep n more prints = record { input = ended ("" ∷ "00000000" ∷ []) ++ chain 0 n ++ ended more; prints = ended prints }
 
 cases : List Case
 cases =
@@ -106,9 +106,11 @@ cases =
     ("C 1 - - 0" ∷ "S -" ∷ "T 2 - - 5 6 - -" ∷ "T 6 - - 12 13 - -" ∷ "T 6 - - 12 13 - -" ∷ "K 0 4 0" ∷ "K 5 6 9" ∷ "K 7 11 0" ∷ "K 12 13 9" ∷ "E" ∷ [])
     -- one-byte word is no keyword
     ∷ frame ("73" ∷ "00000000" ∷ "0100000000000000000100000000" ∷ "8301000000000000000100000000" ∷ []) ("C 11 - - 0" ∷ "S -" ∷ "E" ∷ [])
-    -- depth 63 passes, 64 below a 63 is refusal 5; depth 3 below 1 is 4
-    ∷ deep 64 ("C 12 - - 0" ∷ "S -" ∷ "E" ∷ [])
-    ∷ deep 65 ("R 5 64" ∷ [])
+    -- depth 63 passes, 64 below a 63 is refusal 5, also with a wrong parent, and 4 below a token of depth 63; depth 3 below 1 is 4
+    ∷ deep 64 [] ("C 12 - - 0" ∷ "S -" ∷ "E" ∷ [])
+    ∷ deep 65 [] ("R 5 64" ∷ [])
+    ∷ deep 64 ("0040000000000000000000000009" ∷ []) ("R 5 64" ∷ [])
+    ∷ deep 63 ("833f00000000000000000000003e" ∷ "004000000000000000000000003f" ∷ []) ("R 4 64" ∷ [])
     ∷ frame ("" ∷ "00000000" ∷ "0100000000000000000000000000" ∷ "0001000000000000000000000000" ∷ "0003000000000000000000000000" ∷ []) ("R 4 2" ∷ [])
     -- token end at source length passes, one more is 6
     ∷ frame ("61" ∷ "00000000" ∷ "0100000000000000000100000000" ∷ "8501000000000000000100000000" ∷ []) ("C 11 - - 0" ∷ "S -" ∷ "K 0 1 3" ∷ "E" ∷ [])

@@ -1,5 +1,5 @@
 -- Worked cases of the check and of lists, computed: document 01's cases marked P that speak of them, and a row for each refusal and each detail.
-use Prim.Native.Nat.{ℕ, zero, suc, _+_, _-_, _*_}
+use Prim.Native.Nat.{ℕ}
 use mathlib.Core.Path.{_≡_, refl}
 use mathlib.Core.List.{List, [], _∷_, _++_}
 use lib.ListN.{replicate}
@@ -20,11 +20,6 @@ child p k d s e = le4 k ++ le4 d ++ le4 s ++ le4 e ++ le4 p
 abbrev pub rec : ℕ → ℕ → ℕ → ℕ → List ℕ
 rec k d s e = child 0 k d s e
 
--- n nodes, each below the one before, the first of depth and number d
-pub chain : ℕ → ℕ → List ℕ
-chain d zero = []
-chain d (suc n) = child (d - 1) 0 d 0 0 ++ chain (d + 1) n
-
 -- a root, and below it a token, a node and a token below that
 abbrev small : List ℕ
 small = rec file 0 0 9 ++ rec bareWord 1 0 4 ++ rec selectStatement 1 4294967295 0 ++ child 2 arrow 2 4 9
@@ -41,8 +36,7 @@ on t n v = record { table = t; source = n; message = 0; says = v }
 
 cases : List Case
 cases =
-    -- depth 63 passes and 64 below it is 5, depth 3 below 1 is 4 (a table of depth 63 that is admitted: frame's Worked)
-    on (chain 0 65) 0 (Refused 5 64) ∷
+    -- depth 3 below 1 is 4 (tables of depth 63 and deeper: frame's Worked)
     on (rec file 0 0 0 ++ rec 0 1 0 0 ++ rec 0 3 0 0) 0 (Refused 4 2) ∷
     -- a token that ends at the source's length passes, one more is 6
     on small 9 Admitted ∷
@@ -69,12 +63,11 @@ cases =
     -- 3 comes before 4, 5 and 6 of one record, and an earlier record before all
     on (rec file 0 0 0 ++ rec 158 0 2 1) 0 (Refused 3 1) ∷
     on (rec file 0 0 0 ++ rec bareWord 1 2 1 ++ rec 56 1 0 0) 9 (Refused 6 1) ∷
-    -- 4: record 0 a token, or deep; a later depth 0; a record below a token, also one of depth 63
+    -- 4: record 0 a token, or deep; a later depth 0; a record below a token
     on (rec bareWord 0 0 0) 0 (Refused 4 0) ∷
     on (rec file 1 0 0) 0 (Refused 4 0) ∷
     on (rec file 0 0 0 ++ rec file 0 0 0) 0 (Refused 4 1) ∷
     on (rec file 0 0 0 ++ rec bareWord 1 0 0 ++ rec file 2 0 0) 0 (Refused 4 2) ∷
-    on (chain 0 63 ++ child 62 bareWord 63 0 0 ++ rec file 64 0 0) 0 (Refused 4 64) ∷
     on (rec file 0 0 0 ++ rec file 257 0 0) 0 (Refused 4 1) ∷
     -- 6: start > end; before the previous token's end, also past a node; a token of no length passes, and node spans hold any numbers
     on (rec file 0 0 0 ++ rec bareWord 1 2 1) 9 (Refused 6 1) ∷
@@ -86,10 +79,9 @@ cases =
     on (rec file 0 0 0 ++ rec file 1 0 0 ++ rec file 1 0 0 ++ child 1 file 2 0 0) 0 (Refused 12 3) ∷
     on (rec file 0 0 0 ++ rec file 1 0 0 ++ child 2 file 2 0 0) 0 (Refused 12 2) ∷
     on (rec file 0 0 0 ++ child 256 file 1 0 0) 0 (Refused 12 1) ∷
-    -- 12 comes after 3, 4 and 5 of one record, and before 6
+    -- 12 comes after 3 and 4 of one record (after 5: frame's Worked), and before 6
     on (rec file 0 0 0 ++ child 9 158 1 0 0) 0 (Refused 3 1) ∷
     on (rec file 0 0 0 ++ child 9 file 2 0 0) 0 (Refused 4 1) ∷
-    on (chain 0 64 ++ child 9 file 64 0 0) 0 (Refused 5 64) ∷
     on (rec file 0 0 0 ++ child 9 bareWord 1 2 1) 9 (Refused 12 1) ∷
     []
 
@@ -102,7 +94,7 @@ expects [] = []
 expects (c ∷ cs) = c .says ∷ expects cs
 
 the-check : tells cases ≡ expects cases
-unfolding cases tells expects chain verdict rulesFrom misplaced nearest badSpan lastEnd word
+unfolding cases tells expects verdict rulesFrom misplaced nearest badSpan lastEnd word
 the-check = refl
 
 -- ---- 8, after 6: a node, a token, no record, and a table that is refused before
