@@ -12,7 +12,7 @@ use mathlib.Core.List.{List, [], _∷_, _++_}
 use native.Mathlib.Numerals.{add-one}
 use native.Mathlib.Nat.{zero-add}
 use native.Mathlib.Omega.{arith}
-use borrow.Author.Tests.{ltb-true, ltb-false, lt-ltb, le-ltb, eq-eqb, ne-eqb}
+use borrow.Author.Tests.{ltb-true, ltb-false, lt-ltb, le-ltb, eq-eqb, ne-eqb, eqb-true, eqb-false}
 use lib.Dec.{eqb, ltb}
 use lib.ListN.{length, getD, set, replicate, length-set}
 use lib.Seq.{getD-set-same, getD-set-other}
@@ -44,7 +44,7 @@ over false d e = none (ltb (d + 1) e)
     none true = refl
     none false = refl
 
-place-at : (t : List ℕ) (i : ℕ) → outOfPlace (knownAt t i) (recordAt t 0 i) ≡ misplaced t i
+pub place-at : (t : List ℕ) (i : ℕ) → outOfPlace (knownAt t i) (recordAt t 0 i) ≡ misplaced t i
 unfolding outOfPlace knownAt deepestNext recordAt misplaced
 place-at t zero = refl
 place-at t (suc i) =
@@ -195,6 +195,26 @@ few t e = omega (arith, ltb-false mostRecords (count t) (right (eqb (length t) 0
     right : (a b : Bool) → (a || b) ≡ false → b ≡ false
     right true b p = cc
     right false b p = p
+
+-- and one at least
+pub some : (t : List ℕ) → badLength t ≡ false → 0 < count t
+some t e =
+    let a = neither (eqb (length t) 0 || not (eqb (length t % recordBytes) 0)) (ltb mostRecords (count t)) e in
+    let b = neither (eqb (length t) 0) (not (eqb (length t % recordBytes) 0)) a in
+    let m : length t % recordBytes ≡ 0 = eqb-true (length t % recordBytes) 0 (whole _ (right (eqb (length t) 0) _ a)) in
+    ⊎-elim (λ h. h) (λ h. absurd (eqb-false (length t) 0 b (omega arith))) (lt-or-le 0 (count t))
+  where
+    neither : (a b : Bool) → (a || b) ≡ false → a ≡ false
+    neither true b p = p
+    neither false b p = refl
+
+    right : (a b : Bool) → (a || b) ≡ false → b ≡ false
+    right true b p = cc
+    right false b p = p
+
+    whole : (a : Bool) → not a ≡ false → a ≡ true
+    whole true p = refl
+    whole false p = sym p
 
 -- ---- rules in two parts: the second part speaks only where the first admits
 

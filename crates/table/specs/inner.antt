@@ -1,3 +1,4 @@
 pub mod Ordered
+pub mod Fast
 pub mod Scan
 pub mod Step

@@ -1,19 +1,26 @@
 // The table check: every table, source and message is admitted, or refused with the number of the first broken rule.
+use crate::kinds::LAST_NODE;
 use crate::kinds::is_node;
 use crate::kinds::is_token;
 use crate::record::RECORD_BYTES;
 use crate::record::Rec;
+use crate::record::WORD_LIMIT;
+use crate::record::depth_at;
+use crate::record::end_at;
 use crate::record::kind_at;
 use crate::record::parent_at;
 use crate::record::record_at;
+use crate::record::start_at;
 ghost use mathlib.Core.Path.{_≡_};
-ghost use mathlib.Core.Bool.{not};
+ghost use mathlib.Core.Bool.{true, not};
 ghost use Prim.Native.Nat.{_+_, _≤_, _<_};
 ghost use lib.ListN.{length};
 ghost use lib.Dec.{eqb};
 ghost use Rattle.table.specs.Table.{count, parentAt, wordLimit};
 ghost use Rattle.table.specs.Rules.{mostRecords, badLength, tooLong, noRoot, first, rulesFrom, verdict, rootVerdict};
 ghost use Rattle.table.specs.inner.Step.{after, strange, outOfPlace, offSource, misfitOf};
+ghost use Rattle.table.specs.inner.Fast.{firstFits, tokenFits, deepestUnder};
+ghost use Rattle.table.specs.declared.check.Verdict.the-variants.{Admitted};
 
 // The most records, depth, bytes of a source and bytes of a message.
 pub const MOST_RECORDS: usize = 4096;
@@ -170,6 +177,82 @@ fn check_records(table: &[u8], n: usize) -> Verdict
     Verdict::Admitted
 }
 
+// Record 0 is a node of depth 0 that carries 0.
+fn first_fits(table: &[u8]) -> bool
+    requires { ⌜ 0 < count (now table) ⌝ }
+    ensures { λ r. ⌜ r ≡ firstFits (now (table .entry)) ⌝ }
+{
+    if LAST_NODE < kind_at(table, 0) {
+        return false;
+    }
+    if depth_at(table, 0) != 0 {
+        return false;
+    }
+    parent_at(table, 0) == 0
+}
+
+// A record of this kind and span is a token that is not before the last one's end.
+fn token_fits(kind: usize, start: usize, end: usize, last: usize) -> bool
+    ensures { λ r. ⌜ r ≡ tokenFits kind start end last ⌝ }
+{
+    if !is_token(kind) {
+        return false;
+    }
+    if start < last {
+        return false;
+    }
+    start <= end
+}
+
+// How deep a record below a node of depth d may be.
+fn deepest_under(d: usize) -> usize
+    ensures { λ r. ⌜ r ≡ deepestUnder d ⌝ }
+{
+    if d < MOST_DEPTH { d + 1 } else { MOST_DEPTH }
+}
+
+// Is every record in order, for a source of n bytes? It says only that, and says it fast: where it is so, nothing more need be looked at. `limit` is how
+// deep the record may be, `nodes[d]` the last node one less deep than d and no parent at all for depth 0, `last` the last token's end: ends rise, so
+// that one within the source has all within it.
+fn all_in_order(table: &[u8], n: usize) -> bool
+    requires { ⌜ (0 < count (now table)) × (count (now table) ≤ mostRecords) ⌝ }
+    ensures { λ r. ⌜ (r ≡ true → Admitted ≡ first (rulesFrom (now (table .entry)) n 0 (count (now (table .entry))))) ⌝ }
+{
+    let m = table.len() / RECORD_BYTES;
+    if !first_fits(table) {
+        return false;
+    }
+    let mut nodes = [0; DEPTHS];
+    nodes[0] = WORD_LIMIT;
+    let mut limit = 1;
+    let mut last = 0;
+    let mut i = 1;
+    while i < m {
+        let kind = kind_at(table, i);
+        let d = depth_at(table, i);
+        if limit < d {
+            return false;
+        }
+        if parent_at(table, i) != nodes[d] {
+            return false;
+        }
+        if kind <= LAST_NODE {
+            nodes[d + 1] = i;
+            limit = deepest_under(d);
+            i += 1;
+        } else {
+            let end = end_at(table, i);
+            if !token_fits(kind, start_at(table, i), end, last) {
+                return false;
+            }
+            last = end;
+            limit = d;
+            i += 1;
+        }
+    }
+    last <= n
+}
+
 // The verdict on a table, for a source and a message of these lengths.
 fn verdict_on(table: &[u8], source: usize, message: usize) -> Verdict
     ensures { λ r. ⌜ r ≡ verdict (now (table .entry)) source message ⌝ }
@@ -179,6 +262,9 @@ fn verdict_on(table: &[u8], source: usize, message: usize) -> Verdict
     }
     if too_long(source, message) {
         return Verdict::Refused(TOO_LONG, 0);
+    }
+    if all_in_order(table, source) {
+        return Verdict::Admitted;
     }
     check_records(table, source)
 }
