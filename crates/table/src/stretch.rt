@@ -13,16 +13,7 @@ pub fn stretch_end(t: &[u8], i: usize) -> usize
     requires { ⌜ i < count (now t) ⌝ }
     ensures { λ r. ⌜ (r ≡ stretchEnd (now (t .entry)) i) × (i < r) × (r ≤ count (now (t .entry))) ⌝ }
 {
-    let n = t.len() / RECORD_BYTES;
-    let k = depth_at(t, i);
-    let mut j = i + 1;
-    while j < n {
-        if depth_at(t, j) <= k {
-            return j;
-        }
-        j += 1;
-    }
-    j
+    far_from(t, depth_at(t, i), i + 1)
 }
 
 // The stretch of record i: its record and what is below it.
@@ -54,16 +45,12 @@ pub fn child_from(t: &[u8], j: usize) -> usize
 {
     let m = t.len() / RECORD_BYTES;
     let k = depth_at(t, 0) + 1;
-    let mut i = j;
-    while i < m {
-        let d = depth_at(t, i);
-        if d < k {
-            return m;
-        }
-        if d == k {
-            return i;
-        }
-        i += 1;
+    let i = far_from(t, k, j);
+    if i == m {
+        return m;
+    }
+    if depth_at(t, i) < k {
+        return m;
     }
     i
 }
@@ -82,6 +69,31 @@ pub fn level_from(t: &[u8], k: usize, j: usize) -> usize
         i += 1;
     }
     i
+}
+
+// The same, four records at a turn, where the step may be a far one.
+fn far_from(t: &[u8], k: usize, j: usize) -> usize
+    requires { ⌜ j ≤ count (now t) ⌝ }
+    ensures { λ r. ⌜ Reached (now (t .entry)) k j r ⌝ }
+{
+    let m = t.len() / RECORD_BYTES;
+    let mut i = j;
+    while i + 4 <= m {
+        if depth_at(t, i) <= k {
+            return i;
+        }
+        if depth_at(t, i + 1) <= k {
+            return i + 1;
+        }
+        if depth_at(t, i + 2) <= k {
+            return i + 2;
+        }
+        if depth_at(t, i + 3) <= k {
+            return i + 3;
+        }
+        i += 4;
+    }
+    level_from(t, k, i)
 }
 
 // How deep the record after one of depth d may be, in a flat reading: one below it where it is gone into, else no deeper than it.
