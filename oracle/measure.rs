@@ -1,6 +1,6 @@
 //! The driver for a counter of instructions: on pages of several sizes and depths it asks each question of both sides, between two marks.
 use crate::desk::{self, List, Of, SCOPE};
-use crate::frames::{self, Frame, Seed};
+use crate::frames::{self, Frame, Rec, Seed};
 use crate::rust::{without_lone_quotes, Asked};
 use std::cell::RefCell;
 use std::hint::black_box;
@@ -104,10 +104,40 @@ fn measure_page(records: usize, depth: u32) {
     counted(&row("four_lists_at_cursor"), "ours", &|| SCOPE.map(|q| list(q, Of::Cursor(middle))).iter().sum());
 }
 
+/// The words of typical SQL, what stands between quotes aside, below a node of the kind.
+fn typical(parent: u32) -> Frame {
+    let mut f = frames::empty();
+    for text in include_str!("words.sql").split('\'').step_by(2) {
+        for word in text.split(|c: char| !c.is_ascii_alphanumeric() && c != '_').filter(|w| w.starts_with(|c: char| !c.is_ascii_digit())) {
+            let start = f.source.len() as u32;
+            f.source.extend(word.as_bytes());
+            f.recs.push(Rec { kind: frames::BARE_WORD, depth: 2, start, end: f.source.len() as u32 });
+            f.source.push(b' ');
+        }
+    }
+    let end = f.source.len() as u32;
+    f.recs.splice(0..0, [Rec { kind: 1, depth: 0, start: 0, end }, Rec { kind: parent, depth: 1, start: 0, end }]);
+    f
+}
+
+/// The classes of words that are looked for among the keywords, below an Expression, and of the same words below a DataType, where they are not.
+fn measure_words() {
+    for (question, parent) in [("words_looked_for", 55), ("words_not", 40)] {
+        let f = typical(parent);
+        let table = f.table();
+        let rust = Asked::new(&f).expect("a text");
+        let out = RefCell::new(vec![0; 1 << 18]);
+        let row = format!("{question} {} 2", f.recs.len() - 2);
+        counted(&row, "ours", &|| desk::list(List::Classes, black_box(&table), black_box(&f.source), Of::Root(0), &mut out.borrow_mut()).1 as usize);
+        counted(&row, "rust", &|| rust.measure(List::Classes, 0));
+    }
+}
+
 pub fn measure() {
     for depth in DEPTHS {
         for records in RECORDS {
             measure_page(records, depth);
         }
     }
+    measure_words();
 }
