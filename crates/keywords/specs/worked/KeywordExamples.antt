@@ -1,6 +1,7 @@
 -- Words that are keywords, and words that are not.
 use mathlib.Core.Path.{_≡_, refl}
 use mathlib.Core.Bool.{true, false}
+use mathlib.Core.List.{[], _∷_}
 use Rattle.keywords.specs.Keywords.{keywords, isKeyword}
 use Rattle.table.specs.Text.{bytesOf, upper}
 
@@ -22,6 +23,11 @@ lower = refl
 pub mixed : isKeyword (bytesOf "SeLeCt") ≡ true
 unfolding isKeyword upper bytesOf keywords
 mixed = refl
+
+-- a byte that is a letter but for another bit than its case is none: 206 is N with bit 7 set
+pub other-bit : isKeyword (79 ∷ 206 ∷ []) ≡ false
+unfolding isKeyword upper bytesOf keywords
+other-bit = refl
 
 -- a keyword less its last byte, or with a byte more, is none
 pub shorter : isKeyword (bytesOf "selec") ≡ false
