@@ -1,7 +1,7 @@
 //! The driver for a counter of instructions: on pages of several sizes and depths it asks each question of both sides, between two marks.
 use crate::desk::{self, List, Of, SCOPE};
 use crate::frames::{self, Frame, Rec, Seed};
-use crate::rust::{without_lone_quotes, Asked};
+use crate::rust::{tree_by, without_lone_quotes, Asked};
 use std::cell::RefCell;
 use std::hint::black_box;
 
@@ -76,6 +76,13 @@ fn check(table: &[u8], source: usize) -> usize {
     0
 }
 
+/// The Rust's tree, made from the table's bytes and freed again: what a host without ours does before it can ask.
+fn tree_from(table: &[u8]) -> usize {
+    let number = |i: usize, field: usize| u32::from_le_bytes(table[20 * i + 4 * field..20 * i + 4 * field + 4].try_into().expect("four bytes"));
+    let rec = |i: usize| Rec { kind: number(i, 0), depth: number(i, 1), start: number(i, 2), end: number(i, 3) };
+    black_box(tree_by(&rec, table.len() / 20)).children.len()
+}
+
 fn measure_page(records: usize, depth: u32) {
     let f = page(records, depth);
     let table = f.table();
@@ -90,6 +97,7 @@ fn measure_page(records: usize, depth: u32) {
         counted(&row(question), "rust", rust);
     };
     counted(&row("nothing"), "ours", &|| 0);
+    counted(&row("tree"), "rust", &|| tree_from(black_box(&table)));
     both("check", &|| desk::check(black_box(&table), black_box(&f.source)).1 as usize, &|| check(black_box(&table), black_box(&f.source).len()));
     both("classes", &|| list(List::Classes, Of::Root(0)), &|| rust.measure(List::Classes, 0));
     both("openers", &|| list(List::Openers, Of::Root(0)), &|| rust.measure(List::Openers, 0));

@@ -48,24 +48,31 @@ fn kind_of(r: &Rec, i: usize) -> SyntaxKind {
     }
 }
 
-/// The tree of an admitted table.
-pub fn tree_of(recs: &[Rec]) -> SyntaxTree {
-    fn below(recs: &[Rec], i: &mut usize) -> SyntaxTree {
-        let r = recs[*i];
+/// The tree of an admitted table of n records, which are read one by one.
+pub fn tree_by(rec: &impl Fn(usize) -> Rec, n: usize) -> SyntaxTree {
+    fn below(rec: &impl Fn(usize) -> Rec, n: usize, i: &mut usize) -> SyntaxTree {
+        let r = rec(*i);
         let mut tree = SyntaxTree { kind: kind_of(&r, *i), children: Vec::new(), start: r.start, end: r.end };
         *i += 1;
-        while *i < recs.len() && recs[*i].depth > r.depth {
-            let c = recs[*i];
+        while *i < n {
+            let c = rec(*i);
+            if c.depth <= r.depth {
+                break;
+            }
             if c.is_token() {
                 tree.children.push(SyntaxChild::Token(Token::new(kind_of(&c, *i), c.start, c.end)));
                 *i += 1;
             } else {
-                tree.children.push(SyntaxChild::Tree(below(recs, i)));
+                tree.children.push(SyntaxChild::Tree(below(rec, n, i)));
             }
         }
         tree
     }
-    below(recs, &mut 0)
+    below(rec, n, &mut 0)
+}
+
+pub fn tree_of(recs: &[Rec]) -> SyntaxTree {
+    tree_by(&|i| recs[i], recs.len())
 }
 
 /// The nodes of a tree with their record numbers.
