@@ -6,6 +6,7 @@ use crate::path_rules::rule_context;
 use crate::trailing::check_trailing_clause;
 use path::gathered::Gathered;
 use path::path::find_node_path;
+use path::path::path_from;
 use path::rules::NO_RULE;
 use table::check::Verdict;
 use table::check::check;
@@ -23,6 +24,7 @@ ghost use Rattle.table.specs.Table.{count, wordLimit};
 ghost use Rattle.table.specs.Rules.{verdict};
 ghost use Rattle.table.specs.inner.Ordered.{Ordered};
 ghost use Rattle.path.specs.inner.Gathered.{Within};
+ghost use Rattle.path.specs.inner.Starts.{Starts};
 ghost use Rattle.cursor.specs.inner.Steps.{analyzed};
 ghost use Rattle.cursor.specs.CursorContext.{startsAfter, lastRule, contextAt, contextReply};
 
@@ -74,6 +76,15 @@ fn context_at(table: &[u8], source: &[u8], offset: usize) -> CursorContext
     ensures { λ r. ⌜ r ≡ contextAt (now (source .entry)) (now (table .entry)) offset ⌝ }
 {
     let path = find_node_path(table, offset);
+    analyze_path(table, source, offset, path)
+}
+
+// The same, where the search among record 0's children may begin at the first that is named.
+pub fn context_from(table: &[u8], source: &[u8], offset: usize, first: usize) -> CursorContext
+    requires { ⌜ ((0 < count (now table)) × (count (now table) < wordLimit)) × Ordered (now table) × Starts (now table) offset first ⌝ }
+    ensures { λ r. ⌜ r ≡ contextAt (now (source .entry)) (now (table .entry)) offset ⌝ }
+{
+    let path = path_from(table, offset, first);
     analyze_path(table, source, offset, path)
 }
 

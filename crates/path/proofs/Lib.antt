@@ -2,3 +2,4 @@ pub mod Gathers
 pub mod Kinded
 pub mod Nests
 pub mod Steps
+pub mod StartLaws
