@@ -11,6 +11,7 @@
  * A refused call leaves every byte of `out` as it was. Refusals, the first in this order that applies:
  *   1  table length 0, not a multiple of DESK_RECORD_BYTES, or over DESK_RECORDS_MAX records   detail 0
  *   2  source over DESK_SOURCE_MAX bytes, or message over DESK_MESSAGE_MAX                     detail 0
+ *   10 over DESK_OFFSETS_MAX offsets, or not a whole count of DESK_OFFSET_BYTES                detail 0
  *   then record by record, the detail being the record:
  *   3  kind not listed
  *   4  record 0 not a node of depth 0; or a later depth is 0, is over the previous depth plus 1, or is over that of a token just before
@@ -45,6 +46,8 @@ static uint64_t (*const desk_layout)(void) = desk_layout_2;
 #define DESK_DEPTH_MAX 63
 #define DESK_SOURCE_MAX 65536
 #define DESK_MESSAGE_MAX 4096
+#define DESK_OFFSETS_MAX 64
+#define DESK_OFFSET_BYTES 4     /* of a list of offsets, little-endian */
 
 /* no record; and the start and the end of an absent range */
 #define DESK_NONE UINT32_C(4294967295)
@@ -123,6 +126,11 @@ uint64_t desk_records_above(const uint8_t *table, size_t table_len, const uint8_
 
 /* What is being typed: one entry of DESK_CONTEXT_BYTES. Answer: 1. */
 uint64_t desk_cursor_context(const uint8_t *table, size_t table_len, const uint8_t *source, size_t source_len, uint32_t offset, uint8_t *out, size_t out_len);
+
+/* What is being typed at each of many cursors: `offsets` has DESK_OFFSET_BYTES for each, at most DESK_OFFSETS_MAX, in any order, and one may come twice.
+ * Entries of DESK_CONTEXT_BYTES in the order of the offsets, each what desk_cursor_context gives for its offset: the table is checked once for all.
+ * Answer: the entries written; no offsets, no entries. Refusals 1 and 2, then 10, then 3 to 6, then 7. A refusal is of the whole call. */
+uint64_t desk_cursor_contexts(const uint8_t *table, size_t table_len, const uint8_t *source, size_t source_len, const uint8_t *offsets, size_t offsets_len, uint8_t *out, size_t out_len);
 
 /* The statement under the offset, to be run with a key. Answer: its record, or DESK_NONE.
  * A candidate is a statement (kinds 4 to 13) that is not empty and holds the offset, both ends counted, and so do all nodes above it. DESK_NONE is

@@ -97,7 +97,7 @@ static void text(size_t i) {
 }
 
 static const char *const refusals[] = {"", "no table of whole records, or too long", "source or message too long", "a kind that is not listed",
-    "a depth that fits nowhere", "too deep", "a token that is not where tokens stand", "more entries than the buffer has room for", "no such root or record", "", "", "", "another parent than the record's"};
+    "a depth that fits nowhere", "too deep", "a token that is not where tokens stand", "more entries than the buffer has room for", "no such root or record", "", "too many cursors, or a part of an offset", "", "another parent than the record's"};
 
 /* Is it answered? Else it says why not. */
 static int answered(uint64_t reply) {
@@ -137,14 +137,29 @@ static void show_run(uint32_t at) {
             printf("  record %u holds %u too: of two side by side the first on the page is taken\n", (unsigned)i, (unsigned)at);
 }
 
-static void show_cursor(uint32_t at) {
+/* The context of entry i, at an offset. */
+static void show_context(size_t i, uint32_t at) {
     static const char *const contexts[] = {"an expression to select", "a table", "a table of the database", "a column of", "an expression", "a setting",
         "an engine", "a format", "a data type", "a codec", "an argument of", "a statement", "nothing known"};
+    printf("at %u is typed %s", (unsigned)at, contexts[field(4 * i)]);
+    if (field(4 * i + 1) != DESK_NONE) { printf(" "); text(4 * i + 1); }
+    printf("\n");
+}
+
+/* All cursors of the shared page, in one call. */
+static void show_cursors(const uint32_t *at, size_t count) {
+    static uint8_t offsets[DESK_OFFSET_BYTES * (DESK_OFFSETS_MAX + 1)];
+    for (size_t i = 0; i < DESK_OFFSET_BYTES * count; i++) offsets[i] = (uint8_t)(at[i / 4] >> 8 * (i % 4));
+    uint64_t reply = desk_cursor_contexts(PAGE, offsets, DESK_OFFSET_BYTES * count, out, sizeof out);
+    if (!answered(reply)) return;
+    printf("%u people have it open:\n", (unsigned)DESK_ANSWER(reply));
+    for (size_t i = 0; i < DESK_ANSWER(reply); i++) { printf("  "); show_context(i, at[i]); }
+}
+
+static void show_cursor(uint32_t at) {
     uint64_t reply = desk_cursor_context(PAGE, at, out, sizeof out);
     if (!answered(reply)) return;
-    printf("at %u is typed %s", (unsigned)at, contexts[field(0)]);
-    if (field(1) != DESK_NONE) { printf(" "); text(1); }
-    printf("\n");
+    show_context(0, at);
     uint64_t statement = desk_enclosing_statement(PAGE, at), root = desk_cursor_root(PAGE, at);
     if (DESK_ANSWER(statement) == DESK_NONE) printf("in no statement, ");
     else printf("in the statement of record %u, ", (unsigned)DESK_ANSWER(statement));
@@ -177,6 +192,9 @@ int main(void) {
     show_cursor(cursor);
     show_cursor(source_len);
     show_above(cursor - 2);
+    uint32_t people[DESK_OFFSETS_MAX + 1] = {cursor, source_len, 24, cursor};
+    show_cursors(people, 4);
+    show_cursors(people, DESK_OFFSETS_MAX + 1);
     printf("the names of the whole page:\n");
     show_bindings("with", desk_with_names(PAGE, 0, out, sizeof out));
     show_bindings("alias", desk_table_aliases(PAGE, 0, out, sizeof out));

@@ -8,6 +8,7 @@
 enum { STACK = 1 << 20, PAINT = 0xa5 };
 static _Alignas(4096) uint8_t stack[STACK];
 static uint8_t table[DESK_RECORD_BYTES * DESK_RECORDS_MAX], source[DESK_SOURCE_MAX], out[32 * DESK_CLASS_BYTES * DESK_RECORDS_MAX];
+static uint8_t offsets[DESK_OFFSET_BYTES * DESK_OFFSETS_MAX];
 static size_t used;
 
 static void record(uint32_t kind, uint32_t depth, uint32_t start, uint32_t end) {
@@ -33,6 +34,7 @@ static const struct { const char *name; of_root *list; of_page *page; of_offset 
     {"(the thread alone)", 0, 0, 0}, {"desk_token_classes", 0, desk_token_classes, 0}, {"desk_openers_left", 0, desk_openers_left, 0},
     {"desk_with_names", desk_with_names, 0, 0}, {"desk_table_aliases", desk_table_aliases, 0, 0}, {"desk_column_aliases", desk_column_aliases, 0, 0},
     {"desk_table_refs", desk_table_refs, 0, 0}, {"desk_records_above", desk_records_above, 0, 0}, {"desk_cursor_context", desk_cursor_context, 0, 0},
+    {"desk_cursor_contexts", 0, 0, 0},
     {"desk_enclosing_statement", 0, 0, desk_enclosing_statement}, {"desk_cursor_root", 0, 0, desk_cursor_root},
     {"desk_with_names_at", desk_with_names_at, 0, 0}, {"desk_table_aliases_at", desk_table_aliases_at, 0, 0},
     {"desk_column_aliases_at", desk_column_aliases_at, 0, 0}, {"desk_table_refs_at", desk_table_refs_at, 0, 0},
@@ -46,6 +48,8 @@ static void *ask(void *unused) {
     else if (questions[asked].page) questions[asked].page(table, used, source, sizeof source, out, sizeof out);
     else if (questions[asked].record) questions[asked].record(table, used, source, sizeof source, 0);
     else if (!strcmp(questions[asked].name, "desk_check")) desk_check(table, used, source, sizeof source);
+    else if (!strcmp(questions[asked].name, "desk_cursor_contexts"))
+        desk_cursor_contexts(table, used, source, sizeof source, offsets, sizeof offsets, out, sizeof out);
     else if (!strcmp(questions[asked].name, "desk_bracket_hint"))
         desk_bracket_hint(table, used, source, sizeof source, (const uint8_t *)"expected )", 10);
     return 0;

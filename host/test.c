@@ -7,6 +7,8 @@ static uint8_t table[DESK_RECORD_BYTES * (DESK_RECORDS_MAX + 1)];
 static size_t used;
 static uint8_t source[DESK_SOURCE_MAX + 1], message[DESK_MESSAGE_MAX + 1];
 static size_t source_len;
+static uint8_t offsets[DESK_OFFSET_BYTES * (DESK_OFFSETS_MAX + 1)];
+static size_t offsets_len = DESK_OFFSET_BYTES;
 static unsigned tried, wrong;
 
 static void number(uint8_t *at, uint32_t v) {
@@ -42,6 +44,7 @@ static uint64_t list(const char *q, uint32_t of, uint8_t *out, size_t len) {
         {"table_refs_at", desk_table_refs_at}, {"cursor_context", desk_cursor_context}, {"records_above", desk_records_above},
     };
     if (!strcmp(q, "token_classes")) return desk_token_classes(table, used, source, source_len, out, len);
+    if (!strcmp(q, "cursor_contexts")) return desk_cursor_contexts(table, used, source, source_len, offsets, offsets_len, out, len);
     if (!strcmp(q, "openers_left")) return desk_openers_left(table, used, source, source_len, out, len);
     for (size_t i = 0; i < sizeof asked / sizeof *asked; i++)
         if (!strcmp(q, asked[i].name)) return asked[i].ask(table, used, source, source_len, of, out, len);
@@ -51,7 +54,7 @@ static uint64_t list(const char *q, uint32_t of, uint8_t *out, size_t len) {
 }
 
 static const char *const lists[] = {"token_classes", "openers_left", "with_names", "table_aliases", "column_aliases", "table_refs",
-    "with_names_at", "table_aliases_at", "column_aliases_at", "table_refs_at", "cursor_context", "records_above"};
+    "with_names_at", "table_aliases_at", "column_aliases_at", "table_refs_at", "cursor_context", "records_above", "cursor_contexts"};
 
 enum { GUARD = 32, ROOM = DESK_REFERENCE_BYTES * DESK_RECORDS_MAX };
 static uint8_t lent[GUARD + ROOM + GUARD], before[sizeof lent], table_before[sizeof table], source_before[sizeof source];
@@ -87,6 +90,9 @@ static void refused(uint32_t refusal, uint32_t detail) {
     expect("statement", desk_enclosing_statement(table, used, source, source_len, 0), refusal, detail);
     expect("root", desk_cursor_root(table, used, source, source_len, 0), refusal, detail);
     for (size_t i = 0; i < sizeof lists / sizeof *lists; i++) in_room(lists[i], 0, ROOM, refusal, detail, NULL, 0);
+    offsets_len = DESK_OFFSET_BYTES + 1; /* 10 stands after 2, and before what is said of a record */
+    in_room("cursor_contexts", 0, ROOM, refusal <= 2 ? refusal : 10, 0, NULL, 0);
+    offsets_len = DESK_OFFSET_BYTES;
 }
 
 /* No question is refused, whatever its list has. */
@@ -115,6 +121,28 @@ static void worked(void) {
     record(33, 3, 15, 18); record(131, 4, 15, 18); record(129, 3, 18, 19); record(35, 3, 19, 20); record(131, 4, 19, 20);
 }
 
+/* Many cursors on that tree: in the order of the offsets, one of them twice; none; as many as there may be, one more, and parts of one. */
+static void cursors(void) {
+    static const uint32_t at[] = {9, 10, DESK_NONE, 9}, entry[][4] = {{3, 7, 8, 0}, {1, DESK_NONE, DESK_NONE, 0}, {11, DESK_NONE, DESK_NONE, 0}};
+    static uint32_t expected[4 * DESK_OFFSETS_MAX];
+    for (size_t i = 0; i < DESK_OFFSETS_MAX + 1; i++) {
+        number(offsets + DESK_OFFSET_BYTES * i, at[i % 4]);
+        if (i < DESK_OFFSETS_MAX) memcpy(expected + 4 * i, entry[i % 4 % 3], sizeof *entry);
+    }
+    for (size_t n = 0; n <= DESK_OFFSETS_MAX; n++) {
+        offsets_len = DESK_OFFSET_BYTES * n;
+        in_rooms("cursor_contexts", 0, expected, n, DESK_CONTEXT_BYTES);
+        offsets_len += 1 + n % 3;
+        in_room("cursor_contexts", 0, ROOM, 10, 0, NULL, 0);
+    }
+    offsets_len = sizeof offsets;
+    in_room("cursor_contexts", 0, ROOM, 10, 0, NULL, 0);
+    in_room("cursor_contexts", 0, 0, 10, 0, NULL, 0);
+    expect("no cursors", desk_cursor_contexts(table, used, source, source_len, NULL, 0, NULL, 0), 0, 0);
+    expect("many bytes", desk_cursor_contexts(table, used, source, source_len, table, used, lent, 0), 10, 0);
+    offsets_len = DESK_OFFSET_BYTES;
+}
+
 static void answers(void) {
     static const uint32_t classes[] = {0, 6, 0, 7, 8, 6, 10, 14, 0, 15, 18, 9, 19, 20, 9}, column[] = {3, 7, 8, 0};
     static const uint32_t reference[] = {12, DESK_NONE, DESK_NONE, 15, 18, 19, 20}, alias[] = {19, 20, 19, 20, 19, 20};
@@ -133,6 +161,7 @@ static void answers(void) {
     in_rooms("with_names_at", 9, NULL, 0, DESK_BINDING_BYTES);
     in_rooms("column_aliases", 0, NULL, 0, DESK_BINDING_BYTES);
     in_rooms("column_aliases_at", 9, NULL, 0, DESK_BINDING_BYTES);
+    cursors();
     expect("statement", desk_enclosing_statement(table, used, source, source_len, 9), 0, 1);
     expect("no statement", desk_enclosing_statement(table, used, source, source_len, 21), 0, DESK_NONE);
     expect("root", desk_cursor_root(table, used, source, source_len, 9), 0, 1);

@@ -21,10 +21,10 @@ pub struct Tally {
 }
 
 /// Which of our answers is falsified, to see that it is found: 0 none, 1 the check, 2 the hint, 3 the statement,
-/// 4 the cursor's root, then the count, bytes and guard of each list of a table or root, the context, each list at the cursor, and what is above a
-/// record; last, what glance prints.
+/// 4 the cursor's root, then the count, bytes and guard of each list of a table or root, the context, each list at the cursor, what is above a
+/// record, and the contexts at many offsets; last, what glance prints.
 pub static FLIP: AtomicUsize = AtomicUsize::new(0);
-pub const FLIPS: usize = 4 + 3 * 12 + 1;
+pub const FLIPS: usize = 4 + 3 * 13 + 1;
 
 pub fn flipped(n: usize) -> bool {
     FLIP.load(Ordering::Relaxed) == n
@@ -87,7 +87,7 @@ fn ask(q: List, f: &Frame, table: &[u8], of: Of, room: usize, refused: Option<(u
     };
     let mut got = desk::list(q, table, &f.source, of, &mut all[GUARD..GUARD + room]);
     let at_cursor = SCOPE.contains(&q) && matches!(of, Of::Cursor(_));
-    let flip = 5 + 3 * (q as usize + if q == List::Above { 4 } else if at_cursor { 5 } else { 0 });
+    let flip = 5 + 3 * (q as usize + if q as usize >= List::Above as usize { 4 } else if at_cursor { 5 } else { 0 });
     if flipped(flip) { got.1 ^= 1 }
     if flipped(flip + 1) && got.0 == 0 && got.1 > 0 { all[GUARD + got.1 as usize * q.width() - 1] ^= 1 }
     if flipped(flip + 2) { all[GUARD + room] ^= 1 }
@@ -176,6 +176,32 @@ fn cursor(rust: &Asked, f: &Frame, table: &[u8], offset: u32, tally: &mut Tally)
     Ok(())
 }
 
+/// Many cursors in one call, where the Rust says so of each offset: in order and backwards, some twice, up to 64; and lists of offsets that are refused.
+fn many(f: &Frame, table: &[u8], refused: Option<(u32, u32)>, at: &[(u32, Vec<u32>)], tally: &mut Tally) -> Result<(), String> {
+    let bytes = |n: usize| -> Vec<u8> { at.iter().map(|a| a.0).chain([0, NONE, 1]).cycle().take(n).flat_map(u32::to_le_bytes).collect() };
+    let early = refused.filter(|r| r.0 <= 2);
+    for (whole, over) in [(0, 1), (1, 1), (3, 3), (64, 2), (65, 0), (4096, 0)] {
+        let mut offsets = bytes(whole);
+        offsets.resize(4 * whole + over, 7);
+        for room in [0, 16 * whole + 16] {
+            ask(List::Contexts, f, table, Of::Cursors(&offsets), room, early.or(Some((10, 0))), &[])?;
+        }
+    }
+    if refused.is_some() {
+        for whole in [0, 1, 64] {
+            ask(List::Contexts, f, table, Of::Cursors(&bytes(whole)), 64, refused, &[])?;
+        }
+        return Ok(());
+    }
+    let back: Vec<_> = at.iter().rev().cycle().take(64).cloned().collect();
+    for asked in [&[], &at[..1], at, &back] {
+        let offsets: Vec<u8> = asked.iter().flat_map(|a| a.0.to_le_bytes()).collect();
+        let entries: Vec<Vec<u32>> = asked.iter().map(|a| a.1.clone()).collect();
+        in_rooms(List::Contexts, f, table, Of::Cursors(&offsets), &entries, tally)?;
+    }
+    Ok(())
+}
+
 /// What a root sees of the WITH names around it, nearest first.
 fn around(rust: &Asked, root: usize, tally: &mut Tally) -> Result<Vec<Vec<u32>>, String> {
     let mut out = Vec::new();
@@ -212,6 +238,7 @@ pub fn difference(f: &Frame, tally: &mut Tally) -> Result<(), String> {
                 ask(*q, f, &table, of, 64, refused, &[])?;
             }
         }
+        many(f, &table, refused, &[], tally)?;
         for (name, ours) in [("statement", desk::statement(&table, &f.source, 0)), ("root", desk::root(&table, &f.source, 0))] {
             if Some(ours) != refused {
                 return Err(format!("{name}: ours {ours:?}, by document 01 {refused:?}"));
@@ -253,10 +280,12 @@ pub fn difference(f: &Frame, tally: &mut Tally) -> Result<(), String> {
             in_rooms(q, f, &table, Of::Root(root as u32), &entries, tally)?;
         }
     }
+    let mut at = Vec::new();
     for offset in offsets(f) {
         cursor(&rust, f, &table, offset, tally)?;
+        at.push((offset, rust.context(offset)?.to_vec()));
     }
-    Ok(())
+    many(f, &table, None, &at, tally)
 }
 
 /// A lone quote mark stops the Rust, and ours keeps it: what the Rust says with a letter in its place.

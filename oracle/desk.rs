@@ -10,6 +10,7 @@ extern "C" {
     fn desk_table_refs(t: *const u8, tn: usize, s: *const u8, sn: usize, r: u32, o: *mut u8, on: usize) -> u64;
     fn desk_records_above(t: *const u8, tn: usize, s: *const u8, sn: usize, r: u32, o: *mut u8, on: usize) -> u64;
     fn desk_cursor_context(t: *const u8, tn: usize, s: *const u8, sn: usize, f: u32, o: *mut u8, on: usize) -> u64;
+    fn desk_cursor_contexts(t: *const u8, tn: usize, s: *const u8, sn: usize, f: *const u8, fs: usize, o: *mut u8, on: usize) -> u64;
     fn desk_enclosing_statement(t: *const u8, tn: usize, s: *const u8, sn: usize, f: u32) -> u64;
     fn desk_cursor_root(t: *const u8, tn: usize, s: *const u8, sn: usize, f: u32) -> u64;
     fn desk_with_names_at(t: *const u8, tn: usize, s: *const u8, sn: usize, f: u32, o: *mut u8, on: usize) -> u64;
@@ -29,13 +30,16 @@ pub enum List {
     TableRefs,
     Context,
     Above,
+    Contexts,
 }
 
-/// What a list is of: a root or record, or the cursor at an offset. It counts for the scope's lists, the context and what is above only.
+/// What a list is of: a root or record, the cursor at an offset, or the cursors at offsets of four bytes each. It counts for the scope's lists, the context, the
+/// contexts and what is above only.
 #[derive(Clone, Copy, PartialEq, Debug)]
-pub enum Of {
+pub enum Of<'a> {
     Root(u32),
     Cursor(u32),
+    Cursors(&'a [u8]),
 }
 
 pub const SCOPE: [List; 4] = [List::WithNames, List::TableAliases, List::ColumnAliases, List::TableRefs];
@@ -47,7 +51,7 @@ impl List {
             List::Classes => 12,
             List::Openers | List::Above => 4,
             List::TableRefs => 28,
-            List::Context => 16,
+            List::Context | List::Contexts => 16,
             _ => 24,
         }
     }
@@ -89,6 +93,8 @@ pub fn list(q: List, t: &[u8], s: &[u8], of: Of, out: &mut [u8]) -> (u32, u32) {
             (List::ColumnAliases, Of::Cursor(f)) => desk_column_aliases_at(tp, tn, sp, sn, f, op, on),
             (List::TableRefs, Of::Cursor(f)) => desk_table_refs_at(tp, tn, sp, sn, f, op, on),
             (List::Above, Of::Cursor(r) | Of::Root(r)) => desk_records_above(tp, tn, sp, sn, r, op, on),
+            (List::Contexts, Of::Cursors(f)) => desk_cursor_contexts(tp, tn, sp, sn, f.as_ptr(), f.len(), op, on),
+            (List::Contexts, _) | (_, Of::Cursors(_)) => panic!("no such question"),
             (List::Context, Of::Cursor(f) | Of::Root(f)) => desk_cursor_context(tp, tn, sp, sn, f, op, on),
         }
     })

@@ -1,5 +1,5 @@
 //! The comparison with the Rust.
-//!   oracle compare FRAMES SEED FLIP EVERY GLANCE..          compares; exit 1 at a difference. FLIP falsifies one of our answers (1 to 41; 0 none).
+//!   oracle compare FRAMES SEED FLIP EVERY GLANCE..          compares; exit 1 at a difference. FLIP falsifies one of our answers (1 to 44; 0 none).
 //!                                                           GLANCE.. is the program with its words, asked for one frame in EVERY
 //!   oracle listed                                           asks both sides the frames of the listed differences
 //!   oracle store FILE FRAMES SEED                           writes the stored list

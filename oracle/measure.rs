@@ -107,6 +107,14 @@ fn measure_page(records: usize, depth: u32) {
     for (place, at) in [("top", 0), ("middle", middle), ("end", end)] {
         both(&format!("context,_{place}"), &|| list(List::Context, Of::Cursor(at)), &|| rust.measure(List::Context, black_box(at)));
     }
+    // spread over the page; in one call, beside as many of the Rust's, and singly
+    for cursors in [1, 8, 64] {
+        let at: Vec<u32> = (0..cursors).map(|i| (end as u64 * (2 * i + 1) / (2 * cursors)) as u32).collect();
+        let bytes: Vec<u8> = at.iter().flat_map(|o| o.to_le_bytes()).collect();
+        let single = |o: u32| list(List::Context, Of::Cursor(o));
+        both(&format!("{cursors}_cursors"), &|| list(List::Contexts, Of::Cursors(black_box(&bytes))), &|| at.iter().map(|&o| rust.measure(List::Context, black_box(o))).sum());
+        counted(&row(&format!("{cursors}_cursors,_singly")), "ours", &|| at.iter().map(|&o| single(o)).sum());
+    }
     both("enclosing_statement", &|| desk::statement(black_box(&table), &f.source, middle).1 as usize, &|| rust.statement_once(black_box(middle)));
     counted(&row("cursor's_root"), "ours", &|| desk::root(black_box(&table), &f.source, middle).1 as usize);
     counted(&row("four_lists_at_cursor"), "ours", &|| SCOPE.map(|q| list(q, Of::Cursor(middle))).iter().sum());

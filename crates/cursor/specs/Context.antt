@@ -1,6 +1,7 @@
 -- Document 01, "Worked by hand": the numbers and values of the contexts.
 -- Definitions only.
 use Prim.Native.Nat.{ℕ, _<_}
+use mathlib.Core.List.{List, [], _∷_}
 use Rattle.table.specs.declared.range.Range.{Range}
 use Rattle.tokens.specs.declared.last_token.Name.{Name}
 use Rattle.tokens.specs.declared.last_token.Name.the-variants.{Nameless, Named}
@@ -38,6 +39,10 @@ coded CodecName = code 9 Nameless 0
 coded (FunctionArgument name index) = code 10 name index
 coded StatementStart = code 11 Nameless 0
 coded Unknown = code 12 Nameless 0
+
+-- the entry of a context: its number, its name's range and its argument index
+unfoldable pub contextRow : CursorContext → List ℕ
+contextRow c = coded c .number ∷ coded c .name .start ∷ coded c .name .end ∷ coded c .index ∷ []
 
 -- a function's name, where there is one, starts before 4294967295: it is then told apart from none
 unfoldable pub Starts : Name → Type 0

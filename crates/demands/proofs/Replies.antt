@@ -1,15 +1,16 @@
 -- Demands 1 and 2 from the questions' promises.
---     staged                       the verdict on a question: 1 to 6 and 12, then 8, then 7
+--     staged                       the verdict on a question: 1 to 6 and 12, with 10 after 2, then 8, then 7
 --     staged-means, staged-refused it is a refusal exactly when its condition holds and none before it does, and none where none holds
 --     demanded                     both demands, of a reply and a buffer that are told by that verdict
 --     one-reply                    two replies that meet both demands are equal
---     number-told, plain-told, rooted-told, numbered-told    each form of promise tells them by it
+--     answered-free                where a reply is an answer, no refusal's condition holds
+--     number-told, plain-told, offset-told, rooted-told, numbered-told    each form of promise tells them by it
 -- Assumes nothing.
 use Prim.Native.Nat.{ℕ, _+_, _*_, _≤_, _<_}
 use mathlib.Core.Path.{_≡_, refl, sym, ap, _∙_}
 use mathlib.Core.Bool.{Bool, true, false, cond, not}
 use mathlib.Core.List.{List, [], _∷_, _++_, map}
-use mathlib.Core.Logic.{_⊎_, inl, inr}
+use mathlib.Core.Logic.{_⊎_, inl, inr, ⊎-elim}
 use native.Mathlib.Omega.{arith}
 use borrow.Author.Tests.{lt-ltb, le-ltb, le-leb, ltb-true, ltb-false, leb-true, not-false}
 use lib.ListN.{length, length-map}
@@ -18,11 +19,11 @@ use Rattle.table.specs.declared.check.Verdict.{Verdict}
 use Rattle.table.specs.declared.check.Verdict.the-variants.{Admitted, Refused}
 use Rattle.table.specs.Kinds.{isNode, expression}
 use Rattle.table.specs.Table.{count, kindAt}
-use Rattle.table.specs.Rules.{Rule, first, rules, rootRules, numberRules, noRoot, noSuchRecord, verdict}
+use Rattle.table.specs.Rules.{Rule, first, rules, rootRules, numberRules, offsetRules, badOffsets, noRoot, noSuchRecord, verdict}
 use Rattle.table.specs.Lists.{listBytes, roomRule, listVerdict, reply, buffer, listed, lent}
-use Rattle.table.specs.Exactly.{Broken, broken-1, broken-2, broken-3, broken-4, broken-5, broken-12, broken-6, rank, place, Least}
+use Rattle.table.specs.Exactly.{BadOffsets, Broken, broken-1, broken-2, broken-3, broken-4, broken-5, broken-12, broken-6, rank, place, Least}
 use Rattle.table.proofs.Texts.{both}
-use Rattle.table.proofs.Exactly.{clash, refused-exactly, admitted-exactly}
+use Rattle.table.proofs.Exactly.{clash, bad-offsets, refused-exactly, admitted-exactly}
 use Rattle.brackets.specs.declared.bracket_matching.Hint.{Hint}
 use Rattle.brackets.specs.Brackets.{hinted}
 use Rattle.statement.specs.declared.statement.Enclosing.{Enclosing}
@@ -31,9 +32,10 @@ use Rattle.statement.specs.Statement.{told, statementReply}
 use Rattle.offers.specs.Root.{rootReply}
 use Rattle.replies.specs.Reply.{packed, answered, verdictReply, listReply, hintRecord, hintReply, statementNumber, rootNumber}
 use Rattle.demands.specs.declared.Question.{Question}
-use Rattle.demands.specs.Questions.{Asked, Said, number, Named, no-one, a-root, a-record, Matter, plain, ofRoot, ofRecord, list, statementRecord, matter, answerOf, saidBytes, written}
-use Rattle.demands.specs.Demand1.{NoNode, Missing, Holds, of-table, of-name, of-room, placeIn, First, Refusal, Answer, Refuses, Demand1}
+use Rattle.demands.specs.Questions.{Asked, Said, number, Named, no-one, a-root, a-record, Matter, plain, ofOffsets, ofRoot, ofRecord, list, statementRecord, matter, answerOf, saidBytes, written}
+use Rattle.demands.specs.Demand1.{NoNode, Missing, Holds, of-table, of-offsets, of-name, of-room, past, placeIn, First, Refusal, Answer, Refuses, Demand1}
 use Rattle.demands.specs.Demand2.{Demand2}
+use Rattle.demands.proofs.Offsets.{past-on, past-back, past-free, past-over, past-other, whole-offsets, amid, amid-rules, early-place, late-place}
 
 -- ---- the verdict on a question
 
@@ -81,7 +83,7 @@ unfoldable pub roomy : Said → List ℕ → Verdict
 roomy s out = cond (ltb (length out) (length (saidBytes s))) (Refused 7 (answerOf s)) Admitted
 
 unfoldable pub staged : Asked → Matter → Verdict
-staged a m = after (verdict (a .table) (length (a .source)) (m .message)) (after (rooted (a .table) (m .names)) (roomy (m .said) (a .out)))
+staged a m = after (amid (badOffsets (m .offsets)) (verdict (a .table) (length (a .source)) (m .message))) (after (rooted (a .table) (m .names)) (roomy (m .said) (a .out)))
 
 module _ (a : Asked) (m : Matter) where
   abbrev t : List ℕ
@@ -95,21 +97,38 @@ module _ (a : Asked) (m : Matter) where
 
   -- ---- the places
 
-  at-table : (k d : ℕ) → Broken t n (m .message) k d → (at k d ≡ place k d) × (at k d ≤ 5 * count t + 2)
-  unfolding placeIn place rank
-  at-table k d (broken-1 e z b) = rw e (refl, omega arith)
-  at-table k d (broken-2 e z b) = rw e (refl, omega arith)
-  at-table k d (broken-3 e h b) = rw e (refl, omega arith)
-  at-table k d (broken-4 e h b) = rw e (refl, omega arith)
-  at-table k d (broken-5 e h b) = rw e (refl, omega arith)
-  at-table k d (broken-12 e h b) = rw e (refl, omega arith)
-  at-table k d (broken-6 e h b) = rw e (refl, omega arith)
+  at-is : (k d : ℕ) → Broken t n (m .message) k d → at k d ≡ past (place k d)
+  unfolding placeIn
+  at-is k d (broken-1 e z b) = rw e
+  at-is k d (broken-2 e z b) = rw e
+  at-is k d (broken-3 e h b) = rw e
+  at-is k d (broken-4 e h b) = rw e
+  at-is k d (broken-5 e h b) = rw e
+  at-is k d (broken-12 e h b) = rw e
+  at-is k d (broken-6 e h b) = rw e
 
-  at-root : (k d : ℕ) → k ≡ 8 → at k d ≡ 5 * count t + 3
+  place-most : (k d : ℕ) → Broken t n (m .message) k d → place k d ≤ 5 * count t + 2
+  unfolding place rank
+  place-most k d (broken-1 e z b) = rw e (omega arith)
+  place-most k d (broken-2 e z b) = rw e (omega arith)
+  place-most k d (broken-3 e h b) = rw e (omega arith)
+  place-most k d (broken-4 e h b) = rw e (omega arith)
+  place-most k d (broken-5 e h b) = rw e (omega arith)
+  place-most k d (broken-12 e h b) = rw e (omega arith)
+  place-most k d (broken-6 e h b) = rw e (omega arith)
+
+  at-table : (k d : ℕ) → Broken t n (m .message) k d → (at k d ≡ past (place k d)) × (at k d ≤ 5 * count t + 3)
+  at-table k d b = (at-is k d b, omega (arith, at-is k d b, past-over (place k d), place-most k d b))
+
+  at-offsets : (k d : ℕ) → k ≡ 10 → at k d ≡ 3
+  unfolding placeIn
+  at-offsets k d e = rw e
+
+  at-root : (k d : ℕ) → k ≡ 8 → at k d ≡ 5 * count t + 4
   unfolding placeIn
   at-root k d e = rw e
 
-  at-room : (k d : ℕ) → k ≡ 7 → at k d ≡ 5 * count t + 4
+  at-room : (k d : ℕ) → k ≡ 7 → at k d ≡ 5 * count t + 5
   unfolding placeIn
   at-room k d e = rw e
 
@@ -121,6 +140,7 @@ module _ (a : Asked) (m : Matter) where
   numbers k d (of-table (broken-5 e h b)) = omega arith
   numbers k d (of-table (broken-12 e h b)) = omega arith
   numbers k d (of-table (broken-6 e h b)) = omega arith
+  numbers k d (of-offsets e z b) = omega arith
   numbers k d (of-name e z b) = omega arith
   numbers k d (of-room e z h) = omega arith
 
@@ -129,30 +149,49 @@ module _ (a : Asked) (m : Matter) where
   abbrev Nothing : Type 0
   Nothing = (k d : ℕ) → Broken t n (m .message) k d → ⊥
 
-  by-table : (k d : ℕ) → Least t n (m .message) k d → First a m k d
-  by-table k d l = record { holds = of-table (l .holds); none-before = go }
+  abbrev Whole : Type 0
+  Whole = BadOffsets (m .offsets) → ⊥
+
+  by-table : (k d : ℕ) → Whole ⊎ (k < 3) → Least t n (m .message) k d → First a m k d
+  by-table k d w l = record { holds = of-table (l .holds); none-before = go }
     where
       go : (k′ d′ : ℕ) → Holds a m k′ d′ → at k d ≤ at k′ d′
-      go k′ d′ (of-table b) = rw (at-table k d (l .holds) .0, at-table k′ d′ b .0) (l .none-before k′ d′ b)
+      go k′ d′ (of-table b) = rw (at-table k d (l .holds) .0, at-table k′ d′ b .0) (past-on _ _ (l .none-before k′ d′ b))
+      go k′ d′ (of-offsets e z b) =
+          ⊎-elim
+          (λ f. absurd (f b))
+          (λ h. rw (at-offsets k′ d′ e, at-table k d (l .holds) .0, early-place k d h) (omega arith))
+          w
       go k′ d′ (of-name e z b) = rw (at-root k′ d′ e) (omega (arith, at-table k d (l .holds) .1))
       go k′ d′ (of-room e z h) = rw (at-room k′ d′ e) (omega (arith, at-table k d (l .holds) .1))
 
-  by-name : Nothing → Missing t (m .names) → First a m 8 0
-  by-name free b = record { holds = of-name refl refl b; none-before = go }
+  by-offsets : BadOffsets (m .offsets) → ((k d : ℕ) → Broken t n (m .message) k d → 3 ≤ place k d) → First a m 10 0
+  by-offsets w late = record { holds = of-offsets refl refl w; none-before = go }
+    where
+      go : (k′ d′ : ℕ) → Holds a m k′ d′ → at 10 0 ≤ at k′ d′
+      go k′ d′ (of-table b) = rw (at-offsets 10 0 refl, at-table k′ d′ b .0) (past-free _ (late k′ d′ b))
+      go k′ d′ (of-offsets e z b) = rw (at-offsets 10 0 refl, at-offsets k′ d′ e) (omega arith)
+      go k′ d′ (of-name e z b) = rw (at-offsets 10 0 refl, at-root k′ d′ e) (omega arith)
+      go k′ d′ (of-room e z h) = rw (at-offsets 10 0 refl, at-room k′ d′ e) (omega arith)
+
+  by-name : Nothing → Whole → Missing t (m .names) → First a m 8 0
+  by-name free w b = record { holds = of-name refl refl b; none-before = go }
     where
       go : (k′ d′ : ℕ) → Holds a m k′ d′ → at 8 0 ≤ at k′ d′
       go k′ d′ (of-table x) = absurd (free k′ d′ x)
+      go k′ d′ (of-offsets e z x) = absurd (w x)
       go k′ d′ (of-name e z x) = rw (at-root 8 0 refl, at-root k′ d′ e) (omega arith)
       go k′ d′ (of-room e z h) = rw (at-root 8 0 refl, at-room k′ d′ e) (omega arith)
 
   abbrev There : Type 0
   There = Missing t (m .names) → ⊥
 
-  by-room : Nothing → There → length (a .out) < length (saidBytes (m .said)) → First a m 7 (answerOf (m .said))
-  by-room free r h = record { holds = of-room refl refl h; none-before = go }
+  by-room : Nothing → Whole → There → length (a .out) < length (saidBytes (m .said)) → First a m 7 (answerOf (m .said))
+  by-room free w r h = record { holds = of-room refl refl h; none-before = go }
     where
       go : (k′ d′ : ℕ) → Holds a m k′ d′ → at 7 (answerOf (m .said)) ≤ at k′ d′
       go k′ d′ (of-table x) = absurd (free k′ d′ x)
+      go k′ d′ (of-offsets e z x) = absurd (w x)
       go k′ d′ (of-name e z x) = absurd (r x)
       go k′ d′ (of-room e z g) = rw (at-room 7 (answerOf (m .said)) refl, at-room k′ d′ e) (omega arith)
 
@@ -160,6 +199,7 @@ module _ (a : Asked) (m : Matter) where
 
   record Free : Type 0 where
     none : Nothing
+    offsets : Whole
     root : There
     room : length (saidBytes (m .said)) ≤ length (a .out)
 
@@ -168,40 +208,53 @@ module _ (a : Asked) (m : Matter) where
   Means Admitted = Free
   Means (Refused k d) = First a m k d
 
+  -- 8 and 7
+  abbrev later : Verdict
+  later = after (rooted t (m .names)) (roomy (m .said) (a .out))
+
   staged-means : Means (staged a m)
-  unfolding staged after Means roomy rooted Missing
-  staged-means = go (verdict t n (m .message)) refl
+  unfolding staged after amid Means roomy rooted Missing
+  staged-means = go (badOffsets (m .offsets)) refl (verdict t n (m .message)) refl
     where
-      on-room : Nothing → There → (b : Bool) → ltb (length (a .out)) (length (saidBytes (m .said))) ≡ b → Means (cond b (Refused 7 (answerOf (m .said))) Admitted)
-      on-room free r true e = by-room free r (ltb-true (length (a .out)) (length (saidBytes (m .said))) e)
-      on-room free r false e = record { none = free; root = r; room = ltb-false (length (a .out)) (length (saidBytes (m .said))) e }
+      on-room : Nothing → Whole → There → (b : Bool) → ltb (length (a .out)) (length (saidBytes (m .said))) ≡ b → Means (cond b (Refused 7 (answerOf (m .said))) Admitted)
+      on-room free w r true e = by-room free w r (ltb-true (length (a .out)) (length (saidBytes (m .said))) e)
+      on-room free w r false e = record { none = free; offsets = w; root = r; room = ltb-false (length (a .out)) (length (saidBytes (m .said))) e }
 
-      then-room : Nothing → There → Means (roomy (m .said) (a .out))
-      then-room free r = on-room free r (ltb (length (a .out)) (length (saidBytes (m .said)))) refl
+      then-room : Nothing → Whole → There → Means (roomy (m .said) (a .out))
+      then-room free w r = on-room free w r (ltb (length (a .out)) (length (saidBytes (m .said)))) refl
 
-      on-name : Nothing → (b : Bool) → (b ≡ true → Missing t (m .names)) → (b ≡ false → There) → Means (after (cond b (Refused 8 0) Admitted) (roomy (m .said) (a .out)))
-      on-name free true x y = by-name free (x refl)
-      on-name free false x y = then-room free (y refl)
+      on-name : Nothing → Whole → (b : Bool) → (b ≡ true → Missing t (m .names)) → (b ≡ false → There) → Means (after (cond b (Refused 8 0) Admitted) (roomy (m .said) (a .out)))
+      on-name free w true x y = by-name free w (x refl)
+      on-name free w false x y = then-room free w (y refl)
 
-      then-name : Nothing → (x : Named) → m .names ≡ x → Means (after (rooted t x) (roomy (m .said) (a .out)))
-      then-name free no-one r = then-room free (λ q. rw r at q)
-      then-name free (a-root i) r = on-name free (noRoot t i) (λ e. rw r (no-node t i e)) (λ e q. a-node t i e (rw r at q))
-      then-name free (a-record i) r = on-name free (noSuchRecord t i) (λ e. rw r (not-in t i e)) (λ e q. is-in t i e (rw r at q))
+      then-name : Nothing → Whole → (x : Named) → m .names ≡ x → Means (after (rooted t x) (roomy (m .said) (a .out)))
+      then-name free w no-one r = then-room free w (λ q. rw r at q)
+      then-name free w (a-root i) r = on-name free w (noRoot t i) (λ e. rw r (no-node t i e)) (λ e q. a-node t i e (rw r at q))
+      then-name free w (a-record i) r = on-name free w (noSuchRecord t i) (λ e. rw r (not-in t i e)) (λ e q. is-in t i e (rw r at q))
 
-      go : (v : Verdict) → verdict t n (m .message) ≡ v → Means (after v (after (rooted t (m .names)) (roomy (m .said) (a .out))))
-      go Admitted e = then-name (admitted-exactly t n (m .message) .0 e) (m .names) refl
-      go (Refused k d) e = by-table k d (refused-exactly t n (m .message) k d .0 e)
+      go : (b : Bool) → badOffsets (m .offsets) ≡ b → (v : Verdict) → verdict t n (m .message) ≡ v → Means (after (amid b v) later)
+      go false f Admitted e = then-name (admitted-exactly t n (m .message) .0 e) (whole-offsets (m .offsets) f) (m .names) refl
+      go false f (Refused k d) e = by-table k d (inl (whole-offsets (m .offsets) f)) (refused-exactly t n (m .message) k d .0 e)
+      go true f Admitted e = by-offsets (bad-offsets (m .offsets) .0 f) (λ k d x. absurd (admitted-exactly t n (m .message) .0 e k d x))
+      go true f (Refused k d) e = among (ltb k 3) refl (refused-exactly t n (m .message) k d .0 e)
+        where
+          among : (c : Bool) → ltb k 3 ≡ c → Least t n (m .message) k d → Means (after (cond c (Refused k d) (Refused 10 0)) later)
+          among true h l = by-table k d (inr (ltb-true k 3 h)) l
+          among false h l =
+              by-offsets (bad-offsets (m .offsets) .0 f)
+              (λ k′ d′ x. omega (arith, l .none-before k′ d′ x, late-place k d (l .holds) (ltb-false k 3 h)))
 
   -- ---- and back
 
   free-none : Free → (k d : ℕ) → Holds a m k d → ⊥
   free-none f k d (of-table b) = f .none k d b
+  free-none f k d (of-offsets e z b) = f .offsets b
   free-none f k d (of-name e z b) = f .root b
   free-none f k d (of-room e z h) = omega (arith, f .room)
 
   least-of : (k d : ℕ) → First a m k d → Broken t n (m .message) k d → Least t n (m .message) k d
   least-of k d f b =
-      record { holds = b; none-before = λ k′ d′ b′. rw (at-table k d b .0, at-table k′ d′ b′ .0) at (f .none-before k′ d′ (of-table b′)) }
+      record { holds = b; none-before = λ k′ d′ b′. past-back _ _ (rw (at-table k d b .0, at-table k′ d′ b′ .0) at (f .none-before k′ d′ (of-table b′))) }
 
   same-first : (k d k′ d′ : ℕ) → First a m k d → First a m k′ d′ → (k ≡ k′) × (d ≡ d′)
   same-first k d k′ d′ f g = go (f .holds) (g .holds) (omega (arith, f .none-before k′ d′ (g .holds), g .none-before k d (f .holds)))
@@ -211,12 +264,19 @@ module _ (a : Asked) (m : Matter) where
           let x : verdict t n (m .message) ≡ Refused k d = refused-exactly t n (m .message) k d .1 (least-of k d f b) in
           let y : verdict t n (m .message) ≡ Refused k′ d′ = refused-exactly t n (m .message) k′ d′ .1 (least-of k′ d′ g c) in
           (cc, cc)
+      go (of-table b) (of-offsets e z x) p = absurd (past-other _ (sym (at-table k d b .0) ∙ p ∙ at-offsets k′ d′ e))
       go (of-table b) (of-name e z x) p = absurd (omega (arith, at-table k d b .1, at-root k′ d′ e))
       go (of-table b) (of-room e z h) p = absurd (omega (arith, at-table k d b .1, at-room k′ d′ e))
+      go (of-offsets e z x) (of-table c) p = absurd (past-other _ (sym (at-table k′ d′ c .0) ∙ sym p ∙ at-offsets k d e))
+      go (of-offsets e z x) (of-offsets u v y) p = (omega arith, omega arith)
+      go (of-offsets e z x) (of-name u v y) p = absurd (omega (arith, at-offsets k d e, at-root k′ d′ u))
+      go (of-offsets e z x) (of-room u v h) p = absurd (omega (arith, at-offsets k d e, at-room k′ d′ u))
       go (of-name e z x) (of-table c) p = absurd (omega (arith, at-table k′ d′ c .1, at-root k d e))
+      go (of-name e z x) (of-offsets u v y) p = absurd (omega (arith, at-root k d e, at-offsets k′ d′ u))
       go (of-name e z x) (of-name u v y) p = (omega arith, omega arith)
       go (of-name e z x) (of-room u v h) p = absurd (omega (arith, at-root k d e, at-room k′ d′ u))
       go (of-room e z h) (of-table c) p = absurd (omega (arith, at-table k′ d′ c .1, at-room k d e))
+      go (of-room e z h) (of-offsets u v y) p = absurd (omega (arith, at-room k d e, at-offsets k′ d′ u))
       go (of-room e z h) (of-name u v y) p = absurd (omega (arith, at-room k d e, at-root k′ d′ u))
       go (of-room e z h) (of-room u v g) p = (omega arith, omega arith)
 
@@ -307,6 +367,15 @@ module _ (q : Question) (a : Asked) {r r′ : ℕ} {o o′ : List ℕ} (x : Dema
           let s = y .0 .exactly k d .1 w in
           (p .is ∙ sym (s .is), x .0 .kept k d p ∙ sym (y .0 .kept k d s))
 
+-- where a reply is an answer, no refusal's condition holds
+pub answered-free : (q : Question) (a : Asked) {r : ℕ} {o : List ℕ} → Demand1 q a r o → Answer r → (k d : ℕ) → Holds a (matter q a) k d → ⊥
+unfolding Means
+answered-free q a {r} x y = go (staged a (matter q a)) (staged-means a (matter q a))
+  where
+    go : (v : Verdict) → Means a (matter q a) v → (k d : ℕ) → Holds a (matter q a) k d → ⊥
+    go Admitted w = free-none a (matter q a) w
+    go (Refused k d) w = let p = x .exactly k d .1 w in absurd (omega (arith, p .from, p .to, p .is, y .is))
+
 -- ---- each form of promise
 
 after-after : (u v w : Verdict) → after (after u v) w ≡ after u (after v w)
@@ -317,13 +386,13 @@ after-after (Refused k d) v w = refl
 -- a number
 module _ (a : Asked) (message n : ℕ) where
   abbrev saying : Matter
-  saying = record { message = message; names = no-one; said = number n }
+  saying = record { message = message; offsets = 0; names = no-one; said = number n }
 
   abbrev on : Verdict
   on = verdict (a .table) (length (a .source)) message
 
   number-stage : staged a saying ≡ on
-  unfolding staged rooted roomy saidBytes after
+  unfolding staged rooted roomy saidBytes after amid
   number-stage = rw (le-ltb (length (a .out)) 0 (omega arith)) (go on)
     where
       go : (v : Verdict) → after v (after Admitted Admitted) ≡ v
@@ -361,7 +430,7 @@ root-packed Admitted n = refl
 root-packed (Refused k d) n = refl
 
 -- a list
-rows-bytes : {E : Type 0} (row : E → List ℕ) (es : List E) → listBytes (λ r. r) (map row es) ≡ listBytes row es
+pub rows-bytes : {E : Type 0} (row : E → List ℕ) (es : List E) → listBytes (λ r. r) (map row es) ≡ listBytes row es
 unfolding listBytes
 rows-bytes row [] = refl
 rows-bytes row (e ∷ es) = rw (rows-bytes row es)
@@ -394,13 +463,22 @@ module _ (a : Asked) {E : Type 0} (row : E → List ℕ) (es : List E) where
   pub plain-told : {r : ℕ} {o : List ℕ}
       → (r ≡ listReply (listed (rules (a .table) (length (a .source)) 0) row es (a .out))) × (o ≡ lent (rules (a .table) (length (a .source)) 0) row es (a .out))
       → Told a (plain (list row es)) r o
-  unfolding staged rooted after verdict
+  unfolding staged rooted after verdict amid
   plain-told = list-told (rules (a .table) (length (a .source)) 0) (plain (list row es)) refl refl
+
+  pub offset-told : (b : ℕ) {r : ℕ} {o : List ℕ}
+      → (r ≡ listReply (listed (offsetRules (a .table) (length (a .source)) b) row es (a .out)))
+      × (o ≡ lent (offsetRules (a .table) (length (a .source)) b) row es (a .out))
+      → Told a (ofOffsets b (list row es)) r o
+  unfolding staged rooted after
+  offset-told b =
+      list-told (offsetRules (a .table) (length (a .source)) b) (ofOffsets b (list row es)) refl
+      (ap (λ (v : Verdict). after v roomed) (sym (amid-rules (a .table) (length (a .source)) b)))
 
   pub rooted-told : (i : ℕ) {r : ℕ} {o : List ℕ}
       → (r ≡ listReply (listed (rootRules (a .table) (length (a .source)) i) row es (a .out))) × (o ≡ lent (rootRules (a .table) (length (a .source)) i) row es (a .out))
       → Told a (ofRoot i (list row es)) r o
-  unfolding staged rooted verdict
+  unfolding staged rooted verdict amid
   rooted-told i =
       list-told (rootRules (a .table) (length (a .source)) i) (ofRoot i (list row es)) refl
       (sym (ap (λ (v : Verdict). after v roomed) (first-after (rules (a .table) (length (a .source)) 0) _) ∙ after-after _ _ roomed))
@@ -409,7 +487,7 @@ module _ (a : Asked) {E : Type 0} (row : E → List ℕ) (es : List E) where
       → (r ≡ listReply (listed (numberRules (a .table) (length (a .source)) i) row es (a .out)))
       × (o ≡ lent (numberRules (a .table) (length (a .source)) i) row es (a .out))
       → Told a (ofRecord i (list row es)) r o
-  unfolding staged rooted verdict
+  unfolding staged rooted verdict amid
   numbered-told i =
       list-told (numberRules (a .table) (length (a .source)) i) (ofRecord i (list row es)) refl
       (sym (ap (λ (v : Verdict). after v roomed) (first-after (rules (a .table) (length (a .source)) 0) _) ∙ after-after _ _ roomed))

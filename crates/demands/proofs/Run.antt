@@ -34,8 +34,9 @@ use Rattle.statement.proofs.Statements.{given-first, none-exactly}
 use Rattle.replies.specs.Reply.{noRecord as nothing}
 use Rattle.demands.specs.declared.Question.the-variants.{EnclosingStatement}
 use Rattle.demands.specs.Questions.{Asked, number, statementRecord, matter, answerOf, saidBytes}
-use Rattle.demands.specs.Demand1.{Missing, Holds, of-table, of-name, of-room}
+use Rattle.demands.specs.Demand1.{Missing, Holds, of-table, of-offsets, of-name, of-room}
 use Rattle.demands.specs.Demand2.{Demand2}
+use Rattle.demands.proofs.Offsets.{no-offsets}
 use Rattle.demands.specs.Run.{Around, Runnable, RunnableAt, NoneInside, Picks, Pressed}
 
 -- ---- the search's words and these
@@ -255,6 +256,7 @@ module _ (a : Asked) (ok : verdict (a .table) (length (a .source)) 0 ≡ Admitte
   no-refusal : (k d : ℕ) → Holds a (matter EnclosingStatement a) k d → ⊥
   unfolding matter saidBytes
   no-refusal k d (of-table b) = admitted-exactly (a .table) (length (a .source)) 0 .0 ok k d b
+  no-refusal k d (of-offsets e z b) = no-offsets b
   no-refusal k d (of-name e z b) = unfold Missing in b
   no-refusal k d (of-room e z h) = omega arith
 

@@ -1,4 +1,4 @@
--- Demand 1: every question gives an answer or a refusal of document 01's table, or document 02's 12. A refusal is given exactly when its condition holds and
+-- Demand 1: every question gives an answer or a refusal of document 01's table, or document 02's 10 or 12. A refusal is given exactly when its condition holds and
 -- none before it in the order does, with its detail; and then every byte of the lent buffer is as it was.
 -- Definitions only; it is a contract of `ask` (src/lib.rt), and proofs/Replies.antt says why it holds.
 use Prim.Native.Nat.{ℕ, _+_, _*_, _≤_, _<_}
@@ -7,9 +7,9 @@ use mathlib.Core.Bool.{cond}
 use mathlib.Core.List.{List}
 use mathlib.Core.Logic.{_⊎_, _↔_}
 use lib.ListN.{length}
-use lib.Dec.{eqb}
+use lib.Dec.{ltb, eqb}
 use Rattle.table.specs.Table.{count, kindAt}
-use Rattle.table.specs.Exactly.{Node, Broken, place}
+use Rattle.table.specs.Exactly.{Node, BadOffsets, Broken, place}
 use Rattle.replies.specs.Reply.{packed, answered}
 use Rattle.demands.specs.declared.Question.{Question}
 use Rattle.demands.specs.Questions.{Asked, Named, no-one, a-root, a-record, Matter, matter, answerOf, saidBytes}
@@ -26,15 +26,21 @@ Missing t no-one = ⊥
 Missing t (a-root i) = NoNode t i
 Missing t (a-record i) = count t ≤ i
 
--- condition k holds with detail d: 1 to 6 and 12 of the table, the source and the message; 8 of the record that is named; 7 of the room for the list
+-- condition k holds with detail d: 1 to 6 and 12 of the table, the source and the message; 10 of the offsets; 8 of the record that is named; 7 of the room
+-- for the list
 pub data Holds (a : Asked) (m : Matter) (k d : ℕ) : Type 0 where
   of-table : Broken (a .table) (length (a .source)) (m .message) k d → Holds a m k d
+  of-offsets : k ≡ 10 → d ≡ 0 → BadOffsets (m .offsets) → Holds a m k d
   of-name : k ≡ 8 → d ≡ 0 → Missing (a .table) (m .names) → Holds a m k d
   of-room : k ≡ 7 → d ≡ answerOf (m .said) → length (a .out) < length (saidBytes (m .said)) → Holds a m k d
 
--- the place of condition k with detail d in the order, where the table has c records: 1, 2, then record by record 3, 4, 5, 12, 6, then 8, then 7
+-- a place among the table's conditions, where the third is left to another: 1, 2, then 4 and on
+unfoldable pub past : ℕ → ℕ
+past p = cond (ltb p 3) p (p + 1)
+
+-- the place of condition k with detail d in the order, where the table has c records: 1, 2, then 10, then record by record 3, 4, 5, 12, 6, then 8, then 7
 unfoldable pub placeIn : ℕ → ℕ → ℕ → ℕ
-placeIn c k d = cond (eqb k 8) (5 * c + 3) (cond (eqb k 7) (5 * c + 4) (place k d))
+placeIn c k d = cond (eqb k 10) 3 (cond (eqb k 8) (5 * c + 4) (cond (eqb k 7) (5 * c + 5) (past (place k d))))
 
 -- condition k holds with detail d, and none before it in the order does
 pub record First (a : Asked) (m : Matter) (k d : ℕ) : Type 0 where

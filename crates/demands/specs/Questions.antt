@@ -14,12 +14,14 @@ use Rattle.scope.specs.Scope.{withNames, tableAliases, columnAliases, tableRefs
 use Rattle.names.specs.Bindings.{bindingRow}
 use Rattle.tables.specs.Tables.{referenceRow}
 use Rattle.statement.specs.Statement.{enclosingAt}
+use Rattle.cursor.specs.Context.{contextRow}
 use Rattle.cursor.specs.CursorContext.{contextAt}
+use Rattle.cursors.specs.Cursors.{contextsAt}
 use Rattle.offers.specs.Root.{rootAt}
 use Rattle.offers.specs.WithNames.{withNamesAt}
-use Rattle.replies.specs.Reply.{noRecord as nothing, hintRecord, contextRow}
+use Rattle.replies.specs.Reply.{noRecord as nothing, hintRecord}
 use Rattle.demands.specs.declared.Question.{Question}
-use Rattle.demands.specs.declared.Question.the-variants.{Check, TokenClasses, OpenersLeft, BracketHint, WithNames, TableAliases, ColumnAliases, TableRefs, CursorContext, EnclosingStatement, CursorRoot, WithNamesAt, TableAliasesAt, ColumnAliasesAt, TableRefsAt, RecordsAbove}
+use Rattle.demands.specs.declared.Question.the-variants.{Check, TokenClasses, OpenersLeft, BracketHint, WithNames, TableAliases, ColumnAliases, TableRefs, CursorContext, EnclosingStatement, CursorRoot, WithNamesAt, TableAliasesAt, ColumnAliasesAt, TableRefsAt, RecordsAbove, CursorContexts}
 
 -- all that a question can be asked, and the buffer that it is lent
 pub record Asked : Type 0 where
@@ -27,13 +29,14 @@ pub record Asked : Type 0 where
   pub source : List ℕ
   pub message : List ℕ
   pub offset : ℕ
+  pub offsets : List ℕ
   pub root : ℕ
   pub out : List ℕ
 
 -- the same from its parts
-abbrev pub asked : List ℕ → List ℕ → List ℕ → ℕ → ℕ → List ℕ → Asked
-asked table source message offset root out =
-    record { table = table; source = source; message = message; offset = offset; root = root; out = out }
+abbrev pub asked : List ℕ → List ℕ → List ℕ → ℕ → List ℕ → ℕ → List ℕ → Asked
+asked table source message offset offsets root out =
+    record { table = table; source = source; message = message; offset = offset; offsets = offsets; root = root; out = out }
 
 -- what there is to say: a number, or a list, of whose entries each is a row of numbers
 pub data Said : Type 0 where
@@ -46,24 +49,29 @@ pub data Named : Type 0 where
   a-root : ℕ → Named
   a-record : ℕ → Named
 
--- what a question is about: how long the message is that it takes, which record it names, and what the documents say to it
+-- what a question is about: how long the message is that it takes, and the offsets, which record it names, and what the documents say to it
 pub record Matter : Type 0 where
   pub message : ℕ
+  pub offsets : ℕ
   pub names : Named
   pub said : Said
 
--- a question that takes no message and names no record; one that takes a message; one that names a root; one that names a record of any kind
+-- a question that takes no message and no offsets and names no record; one that takes a message; one that takes offsets; one that names a root; one
+-- that names a record of any kind
 abbrev pub plain : Said → Matter
-plain s = record { message = 0; names = no-one; said = s }
+plain s = record { message = 0; offsets = 0; names = no-one; said = s }
 
 abbrev pub ofMessage : List ℕ → Said → Matter
-ofMessage m s = record { message = length m; names = no-one; said = s }
+ofMessage m s = record { message = length m; offsets = 0; names = no-one; said = s }
+
+abbrev pub ofOffsets : ℕ → Said → Matter
+ofOffsets b s = record { message = 0; offsets = b; names = no-one; said = s }
 
 abbrev pub ofRoot : ℕ → Said → Matter
-ofRoot i s = record { message = 0; names = a-root i; said = s }
+ofRoot i s = record { message = 0; offsets = 0; names = a-root i; said = s }
 
 abbrev pub ofRecord : ℕ → Said → Matter
-ofRecord i s = record { message = 0; names = a-record i; said = s }
+ofRecord i s = record { message = 0; offsets = 0; names = a-record i; said = s }
 
 -- a list of entries
 abbrev pub list : {E : Type 0} → (E → List ℕ) → List E → Said
@@ -92,6 +100,7 @@ matter TableAliasesAt a = plain (list bindingRow (tableAliases (a .source) (a .t
 matter ColumnAliasesAt a = plain (list bindingRow (columnAliases (a .source) (a .table) (rootAt (a .table) (a .offset))))
 matter TableRefsAt a = plain (list referenceRow (tableRefs (a .source) (a .table) (rootAt (a .table) (a .offset))))
 matter RecordsAbove a = ofRecord (a .root) (list aboveRow (above (a .table) (a .root)))
+matter CursorContexts a = ofOffsets (length (a .offsets)) (list contextRow (contextsAt (a .source) (a .table) (a .offsets)))
 
 -- ---- what is said, as a reply
 

@@ -28,12 +28,11 @@ use Rattle.tokens.specs.LastToken.{lastOr, init, lastTwo, isText, dotted}
 use Rattle.cursor.specs.Trailing.{lastClause, pastClause, pastEnd, trailingIn}
 use Rattle.cursor.specs.PathRules.{columnOr, column, pathRules, ruled, elseAsk as either, byPath}
 use Rattle.cursor.specs.CursorContext.{lastRule, givenOr, contextAt}
-use Rattle.cursor.specs.Context.{rangeOf, coded}
+use Rattle.cursor.specs.Context.{rangeOf, coded, contextRow}
 use Rattle.offers.specs.Root.{statementOr, rootOf, rootAt}
 use Rattle.table.specs.Above.{aboveAmong}
 use Rattle.offers.specs.Enclosing.{queries, someQuery, beyond, statementAmong, lastRoot, rootsAmong, enclosingRoots}
 use Rattle.offers.specs.WithNames.{items, itemsBefore, boundBy, ownSeen, seenOfAll, offeredIn}
-use Rattle.replies.specs.Reply.{contextRow}
 use Rattle.demands.specs.declared.Question.the-variants.{CursorContext, TableAliases, TableRefs, WithNamesAt, TableAliasesAt, ColumnAliasesAt, TableRefsAt}
 use Rattle.demands.specs.Questions.{Asked, asked, Said, number, rows, list, matter}
 use Rattle.table.specs.Ranges.{absentNumber}
@@ -121,7 +120,7 @@ table =
     ++ child 14 closingRound 3 59 60
 
 abbrev that : Asked
-that = asked table source [] cursor 0 []
+that = asked table source [] cursor [] 0 []
 
 abbrev noRange : ℕ
 noRange = absentNumber

@@ -1,6 +1,7 @@
-// The questions at an offset, for C: the context, the enclosing statement, the cursor's root and its four lists.
+// The questions at an offset, for C: the context, that of many offsets at once, the enclosing statement, the cursor's root and its four lists.
 use cursor::context::ContextReply;
 use cursor::cursor_context::cursor_context;
+use cursors::cursors::cursor_contexts;
 use offers::offers::column_aliases_at;
 use offers::offers::table_aliases_at;
 use offers::offers::table_refs_at;
@@ -15,14 +16,16 @@ use statement::statement::enclosing_statement;
 ghost use mathlib.Core.Path.{_≡_};
 ghost use mathlib.Core.List.{[], _∷_};
 ghost use lib.ListN.{length};
-ghost use Rattle.table.specs.Rules.{rules, verdict};
+ghost use Rattle.table.specs.Rules.{rules, offsetRules, verdict};
 ghost use Rattle.names.specs.Bindings.{bindingRow};
 ghost use Rattle.tables.specs.Tables.{referenceRow};
 ghost use Rattle.scope.specs.Scope.{tableAliases, columnAliases, tableRefs};
 ghost use Rattle.statement.specs.Statement.{enclosingAt, statementReply};
+ghost use Rattle.cursor.specs.Context.{contextRow};
 ghost use Rattle.cursor.specs.CursorContext.{contextAt};
+ghost use Rattle.cursors.specs.Cursors.{contextsAt};
 ghost use Rattle.offers.specs.Root.{rootAt, rootReply};
-ghost use Rattle.replies.specs.Reply.{statementNumber, rootNumber, contextRow, AnswersC};
+ghost use Rattle.replies.specs.Reply.{statementNumber, rootNumber, AnswersC};
 ghost use Rattle.offers.specs.WithNames.{withNamesAt};
 
 // The statement that encloses the offset. High half of an answer: its record, or 4294967295 for none.
@@ -114,4 +117,18 @@ pub extern "C" fn desk_cursor_context(
         ContextReply::Refused(k, d) => packed(k, d),
         ContextReply::Context(c) => list_reply(list_context(c, out)),
     }
+}
+
+// What is being typed at each of the offsets, of four bytes each. High half of an answer: the entries written.
+#[no_mangle]
+pub extern "C" fn desk_cursor_contexts(
+    table: &[u8],
+    source: &[u8],
+    offsets: &[u8],
+    out: &mut [u8],
+) -> u64
+    ensures { λ r. ⌜ AnswersC (offsetRules (now (table .entry)) (length (now (source .entry))) (length (now (offsets .entry)))) contextRow
+        (contextsAt (now (source .entry)) (now (table .entry)) (now (offsets .entry))) (now (out .entry)) r (now (out .exit)) ⌝ }
+{
+    list_reply(cursor_contexts(table, source, offsets, out))
 }

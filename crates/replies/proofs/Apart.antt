@@ -11,7 +11,7 @@ use Rattle.table.specs.declared.check.Verdict.{Verdict}
 use Rattle.table.specs.declared.check.Verdict.the-variants.{Admitted, Refused}
 use Rattle.table.specs.declared.list.Listed.{Listed}
 use Rattle.table.specs.declared.list.Listed.the-variants.{Entries, Refused as Denied}
-use Rattle.table.specs.Rules.{Rule, rule, first, rules, rulesFrom, rootRules, numberRules}
+use Rattle.table.specs.Rules.{Rule, rule, first, rules, rulesFrom, rootRules, numberRules, offsetRules}
 use Rattle.table.specs.Lists.{roomRule}
 use Rattle.brackets.specs.declared.bracket_matching.Hint.{Hint}
 use Rattle.brackets.specs.declared.bracket_matching.Hint.the-variants.{Opener, NoOpener}
@@ -169,6 +169,9 @@ root-rules t n i = both (all-rules t n 0) (more 8 0 _ (omega arith) done)
 
 pub number-rules : (t : List ℕ) (n i : ℕ) → Numbered (numberRules t n i)
 number-rules t n i = both (all-rules t n 0) (more 8 0 _ (omega arith) done)
+
+pub offset-rules : (t : List ℕ) (n b : ℕ) → Numbered (offsetRules t n b)
+offset-rules t n b = more 1 0 _ (omega arith) (more 2 0 _ (omega arith) (more 10 0 _ (omega arith) (from-record t n 0 _)))
 
 pub with-room : {E : Type 0} {rs : List Rule} (row : E → List ℕ) (es : List E) (out : List ℕ) →
     Numbered rs → Numbered (rs ++ roomRule row es out ∷ [])

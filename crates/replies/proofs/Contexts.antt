@@ -11,9 +11,9 @@ use Rattle.table.specs.Lists.{listed, lent}
 use Rattle.table.proofs.Writes.{list-refused, list-admitted}
 use Rattle.cursor.specs.declared.context.CursorContext.{CursorContext}
 use Rattle.cursor.specs.declared.context.ContextReply.the-variants.{Context, Refused as Denied}
+use Rattle.cursor.specs.Context.{contextRow}
 use Rattle.cursor.specs.CursorContext.{contextReply}
 use Rattle.cursor.proofs.Replies.{refused-is, given-is}
-use Rattle.replies.specs.Reply.{contextRow}
 
 module _ (t : List ℕ) (n : ℕ) (x : CursorContext) (out : List ℕ) where
   pub context-refused : {k d : ℕ} → Denied k d ≡ contextReply (verdict t n 0) x

@@ -1,7 +1,7 @@
 -- The replies as C gets them: one number of 64 bits, whose halves `packed` puts together.
 -- Definitions only.
 use Prim.Native.Nat.{ℕ, _+_, _*_}
-use mathlib.Core.List.{List, [], _∷_}
+use mathlib.Core.List.{List}
 use Rattle.table.specs.declared.check.Verdict.{Verdict}
 use Rattle.table.specs.declared.check.Verdict.the-variants.{Admitted, Refused}
 use Rattle.table.specs.declared.list.Listed.{Listed}
@@ -12,8 +12,6 @@ use Rattle.brackets.specs.declared.bracket_matching.HintReply.{HintReply}
 use Rattle.brackets.specs.declared.bracket_matching.HintReply.the-variants.{Hinted, Refused as Unhinted}
 use Rattle.statement.specs.declared.statement.StatementReply.{StatementReply}
 use Rattle.statement.specs.declared.statement.StatementReply.the-variants.{Statement, NoStatement, Refused as Unstated}
-use Rattle.cursor.specs.declared.context.CursorContext.{CursorContext}
-use Rattle.cursor.specs.Context.{coded}
 use Rattle.offers.specs.declared.root.RootReply.{RootReply}
 use Rattle.offers.specs.declared.root.RootReply.the-variants.{Root, Refused as Unrooted}
 use Rattle.table.specs.Table.{wordLimit}
@@ -74,7 +72,3 @@ statementNumber (Unstated k d) = packed k d
 unfoldable pub rootNumber : RootReply → ℕ
 rootNumber (Root n) = packed answered n
 rootNumber (Unrooted k d) = packed k d
-
--- the entry of a context: its number, its name's range and its argument index
-unfoldable pub contextRow : CursorContext → List ℕ
-contextRow c = coded c .number ∷ coded c .name .start ∷ coded c .name .end ∷ coded c .index ∷ []

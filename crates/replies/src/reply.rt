@@ -16,7 +16,8 @@ use table::record::WORD_LIMIT;
 ghost use mathlib.Core.Path.{_≡_};
 ghost use mathlib.Core.List.{[], _∷_};
 ghost use Rattle.table.specs.Lists.{Answers};
-ghost use Rattle.replies.specs.Reply.{packed, verdictReply, listReply, hintRecord, hintReply, statementNumber, rootNumber, contextRow};
+ghost use Rattle.cursor.specs.Context.{contextRow};
+ghost use Rattle.replies.specs.Reply.{packed, verdictReply, listReply, hintRecord, hintReply, statementNumber, rootNumber};
 
 // How many values a half of a reply has.
 const HALF: u64 = WORD_LIMIT as u64;

@@ -2,9 +2,9 @@
 -- is admitted exactly when none holds:
 --     refused-exactly, admitted-exactly
 -- and each condition in plain words:
---     bad-length, too-long, unlisted-kind, misplaced-first, misplaced-later, too-deep, wrong-parent, bad-span
+--     bad-length, too-long, bad-offsets, unlisted-kind, misplaced-first, misplaced-later, too-deep, wrong-parent, bad-span
 -- Assumes nothing.
-use Prim.Native.Nat.{ℕ, zero, suc, _+_, _*_, _%_, _≤_, _<_}
+use Prim.Native.Nat.{ℕ, zero, suc, _+_, _*_, _/_, _%_, _≤_, _<_}
 use mathlib.Core.Path.{_≡_, refl, sym, ap, _∙_}
 use mathlib.Core.Bool.{Bool, true, false, cond, not, _&&_, _||_}
 use mathlib.Core.List.{List, [], _∷_, _++_}
@@ -19,8 +19,8 @@ use Rattle.table.specs.declared.check.Verdict.{Verdict}
 use Rattle.table.specs.declared.check.Verdict.the-variants.{Admitted, Refused}
 use Rattle.table.specs.Kinds.{isNode, isToken, expression, otherToken, arrow}
 use Rattle.table.specs.Table.{recordBytes, count, kindAt, depthAt, startAt, endAt, parentAt}
-use Rattle.table.specs.Rules.{mostRecords, mostDepth, mostSource, mostMessage, badLength, tooLong, unlisted, misplaced, tooDeep, nearest, wrongParent, badSpan, lastEnd, Rule, rulesAt, rulesFrom, rules, first, verdict}
-use Rattle.table.specs.Exactly.{Broken, broken-1, broken-2, broken-3, broken-4, broken-5, broken-12, broken-6, rank, place, Least, Node, Token, BadLength, TooLong, Unlisted, MisplacedFirst, MisplacedLater, TooDeep, NearestBefore, NoneBefore, WrongParent, LastToken, EndsAfter, BadSpan}
+use Rattle.table.specs.Rules.{mostRecords, mostDepth, mostSource, mostMessage, mostOffsets, offsetBytes, badLength, tooLong, badOffsets, unlisted, misplaced, tooDeep, nearest, wrongParent, badSpan, lastEnd, Rule, rulesAt, rulesFrom, rules, first, verdict}
+use Rattle.table.specs.Exactly.{Broken, broken-1, broken-2, broken-3, broken-4, broken-5, broken-12, broken-6, rank, place, Least, Node, Token, BadLength, TooLong, BadOffsets, Unlisted, MisplacedFirst, MisplacedLater, TooDeep, NearestBefore, NoneBefore, WrongParent, LastToken, EndsAfter, BadSpan}
 use Rattle.table.proofs.Laws.{lt-or-le}
 
 pub clash : {b : Bool} → b ≡ false → b ≡ true → ⊥
@@ -380,6 +380,20 @@ too-long n m = (to, back)
     back : TooLong n m → tooLong n m ≡ true
     back (inl h) = or-left _ (ltb mostMessage m) (lt-ltb mostSource n h)
     back (inr h) = or-right (ltb mostSource n) _ (lt-ltb mostMessage m h)
+
+pub bad-offsets : (b : ℕ) → (badOffsets b ≡ true) ↔ BadOffsets b
+bad-offsets b = (to, back)
+  where
+    to : badOffsets b ≡ true → BadOffsets b
+    to e =
+        ⊎-elim
+        (λ x. inl (ltb-true mostOffsets (b / offsetBytes) x))
+        (λ x. inr (λ z. yes-not _ x (eq-eqb (b % offsetBytes) 0 z)))
+        (or-either (ltb mostOffsets (b / offsetBytes)) (not (eqb (b % offsetBytes) 0)) e)
+
+    back : BadOffsets b → badOffsets b ≡ true
+    back (inl h) = or-left _ (not (eqb (b % offsetBytes) 0)) (lt-ltb mostOffsets (b / offsetBytes) h)
+    back (inr h) = or-right (ltb mostOffsets (b / offsetBytes)) _ (not-yes _ (λ y. h (eqb-true (b % offsetBytes) 0 y)))
 
 pub unlisted-kind : (t : List ℕ) (i : ℕ) → (unlisted t i ≡ true) ↔ Unlisted t i
 unlisted-kind t i = (to, back)

@@ -1,6 +1,6 @@
 -- What is meant by a refusal that is given exactly when its condition holds and none before it in the order does.
 -- Definitions only; the theorems are in proofs/Exactly.antt.
-use Prim.Native.Nat.{ℕ, zero, suc, _+_, _*_, _%_, _≤_, _<_}
+use Prim.Native.Nat.{ℕ, zero, suc, _+_, _*_, _/_, _%_, _≤_, _<_}
 use mathlib.Core.Path.{_≡_}
 use mathlib.Core.Bool.{true, cond}
 use mathlib.Core.List.{List}
@@ -9,7 +9,7 @@ use lib.ListN.{length}
 use lib.Dec.{ltb, eqb}
 use Rattle.table.specs.Kinds.{expression, otherToken, arrow}
 use Rattle.table.specs.Table.{recordBytes, count, kindAt, depthAt, startAt, endAt, parentAt}
-use Rattle.table.specs.Rules.{mostRecords, mostDepth, mostSource, mostMessage, badLength, tooLong, unlisted, misplaced, tooDeep, wrongParent, badSpan}
+use Rattle.table.specs.Rules.{mostRecords, mostDepth, mostSource, mostMessage, mostOffsets, offsetBytes, badLength, tooLong, unlisted, misplaced, tooDeep, wrongParent, badSpan}
 
 -- condition k holds with detail d, of the table t, a source of n bytes and a message of m bytes
 pub data Broken (t : List ℕ) (n m k d : ℕ) : Type 0 where
@@ -50,6 +50,10 @@ BadLength t = (length t ≡ 0) ⊎ ((length t % recordBytes ≡ 0 → ⊥) ⊎ (
 -- 2
 abbrev pub TooLong : ℕ → ℕ → Type 0
 TooLong n m = (mostSource < n) ⊎ (mostMessage < m)
+
+-- 10
+abbrev pub BadOffsets : ℕ → Type 0
+BadOffsets b = (mostOffsets < b / offsetBytes) ⊎ (b % offsetBytes ≡ 0 → ⊥)
 
 -- 3
 abbrev pub Unlisted : List ℕ → ℕ → Type 0

@@ -1,4 +1,4 @@
--- When a table is refused, with which number and which detail: document 01's refusals 1 to 6 and 8, in its order, and document 02's 12 after 5.
+-- When a table is refused, with which number and which detail: document 01's refusals 1 to 6 and 8, in its order, and document 02's 10 after 2 and 12 after 5.
 -- Definitions only.
 use Prim.Native.Nat.{ℕ, zero, suc, _+_, _-_, _/_, _%_}
 use mathlib.Core.Bool.{Bool, false, cond, not, _&&_, _||_}
@@ -23,7 +23,14 @@ mostSource = 65536
 abbrev pub mostMessage : ℕ
 mostMessage = 4096
 
--- ---- the conditions, of the table t, a source of n bytes and a message of m bytes
+abbrev pub mostOffsets : ℕ
+mostOffsets = 64
+
+-- how many bytes an offset of a list of offsets takes
+abbrev pub offsetBytes : ℕ
+offsetBytes = 4
+
+-- ---- the conditions, of the table t, a source of n bytes, a message of m bytes and offsets of b bytes
 
 -- 1: table length 0, not a multiple of 20, or over 4,096 records
 abbrev pub badLength : List ℕ → Bool
@@ -32,6 +39,10 @@ badLength t = eqb (length t) 0 || not (eqb (length t % recordBytes) 0) || ltb mo
 -- 2: source or message too long
 abbrev pub tooLong : ℕ → ℕ → Bool
 tooLong n m = ltb mostSource n || ltb mostMessage m
+
+-- 10: over 64 offsets or not a whole count of four-byte ones
+abbrev pub badOffsets : ℕ → Bool
+badOffsets b = ltb mostOffsets (b / offsetBytes) || not (eqb (b % offsetBytes) 0)
 
 -- 3: the kind of record i is not listed
 abbrev pub unlisted : List ℕ → ℕ → Bool
@@ -105,6 +116,10 @@ rulesFrom t n i (suc c) = rulesAt t n i ++ rulesFrom t n (suc i) c
 abbrev pub rules : List ℕ → ℕ → ℕ → List Rule
 rules t n m = rule 1 0 (badLength t) ∷ rule 2 0 (tooLong n m) ∷ rulesFrom t n 0 (count t)
 
+-- the same with 10 after 2, where the question takes offsets
+abbrev pub offsetRules : List ℕ → ℕ → ℕ → List Rule
+offsetRules t n b = rule 1 0 (badLength t) ∷ rule 2 0 (tooLong n 0) ∷ rule 10 0 (badOffsets b) ∷ rulesFrom t n 0 (count t)
+
 -- then 8, where the question names a root
 abbrev pub rootRules : List ℕ → ℕ → ℕ → List Rule
 rootRules t n i = rules t n 0 ++ rule 8 0 (noRoot t i) ∷ []
@@ -125,3 +140,7 @@ verdict t n m = first (rules t n m)
 -- on a table, a source of n bytes and the named root i
 unfoldable pub rootVerdict : List ℕ → ℕ → ℕ → Verdict
 rootVerdict t n i = first (rootRules t n i)
+
+-- on a table, a source of n bytes and offsets of b bytes
+unfoldable pub offsetVerdict : List ℕ → ℕ → ℕ → Verdict
+offsetVerdict t n b = first (offsetRules t n b)

@@ -17,8 +17,8 @@ ghost use Prim.Native.Nat.{_+_, _≤_, _<_};
 ghost use lib.ListN.{length};
 ghost use lib.Dec.{eqb};
 ghost use Rattle.table.specs.Table.{count, parentAt, wordLimit};
-ghost use Rattle.table.specs.Rules.{mostRecords, badLength, tooLong, noRoot, first, rulesFrom, verdict, rootVerdict};
-ghost use Rattle.table.specs.inner.Step.{after, strange, outOfPlace, offSource, misfitOf};
+ghost use Rattle.table.specs.Rules.{mostRecords, badLength, tooLong, badOffsets, noRoot, first, rulesFrom, verdict, rootVerdict, offsetVerdict};
+ghost use Rattle.table.specs.inner.Step.{after, strange, outOfPlace, offSource, misfitOf, verdictOn};
 ghost use Rattle.table.specs.inner.Fast.{firstFits, tokenFits, deepestUnder};
 ghost use Rattle.table.specs.declared.check.Verdict.the-variants.{Admitted};
 
@@ -30,6 +30,11 @@ const MOST_DEPTH: usize = 63;
 const MOST_SOURCE: usize = 65536;
 
 const MOST_MESSAGE: usize = 4096;
+
+// The most offsets in a list of them, and the bytes of one.
+pub const MOST_OFFSETS: usize = 64;
+
+pub const OFFSET_BYTES: usize = 4;
 
 // The refusals, by document 01's numbers.
 const BAD_LENGTH: u32 = 1;
@@ -43,6 +48,8 @@ const MISPLACED: u32 = 4;
 const TOO_DEEP: u32 = 5;
 
 const BAD_SPAN: u32 = 6;
+
+const BAD_OFFSETS: u32 = 10;
 
 const WRONG_PARENT: u32 = 12;
 
@@ -79,6 +86,13 @@ fn too_long(source: usize, message: usize) -> bool
     ensures { λ r. ⌜ r ≡ tooLong source message ⌝ }
 {
     (MOST_SOURCE < source) | (MOST_MESSAGE < message)
+}
+
+// Refusal 10: so many bytes are over 64 offsets, or not a whole count of them.
+fn bad_offsets(bytes: usize) -> bool
+    ensures { λ r. ⌜ r ≡ badOffsets bytes ⌝ }
+{
+    (MOST_OFFSETS < bytes / OFFSET_BYTES) | (bytes % OFFSET_BYTES != 0)
 }
 
 // Refusal 3: the kind is not listed.
@@ -253,15 +267,18 @@ fn all_in_order(table: &[u8], n: usize) -> bool
     last <= n
 }
 
-// The verdict on a table, for a source and a message of these lengths.
-fn verdict_on(table: &[u8], source: usize, message: usize) -> Verdict
-    ensures { λ r. ⌜ r ≡ verdict (now (table .entry)) source message ⌝ }
+// The verdict on a table, for a source, a message and offsets of these lengths, 0 where a question takes none.
+fn verdict_on(table: &[u8], source: usize, message: usize, offsets: usize) -> Verdict
+    ensures { λ r. ⌜ r ≡ verdictOn (now (table .entry)) source message offsets ⌝ }
 {
     if bad_length(table) {
         return Verdict::Refused(BAD_LENGTH, 0);
     }
     if too_long(source, message) {
         return Verdict::Refused(TOO_LONG, 0);
+    }
+    if bad_offsets(offsets) {
+        return Verdict::Refused(BAD_OFFSETS, 0);
     }
     if all_in_order(table, source) {
         return Verdict::Admitted;
@@ -273,14 +290,21 @@ fn verdict_on(table: &[u8], source: usize, message: usize) -> Verdict
 pub fn check(table: &[u8], source: &[u8]) -> Verdict
     ensures { λ r. ⌜ r ≡ verdict (now (table .entry)) (length (now (source .entry))) 0 ⌝ }
 {
-    verdict_on(table, source.len(), 0)
+    verdict_on(table, source.len(), 0, 0)
 }
 
 // The check of a question that takes a message too.
 pub fn check_message(table: &[u8], source: &[u8], message: &[u8]) -> Verdict
     ensures { λ r. ⌜ r ≡ verdict (now (table .entry)) (length (now (source .entry))) (length (now (message .entry))) ⌝ }
 {
-    verdict_on(table, source.len(), message.len())
+    verdict_on(table, source.len(), message.len(), 0)
+}
+
+// The check of a question that takes offsets too: refusal 10 after 2, and before the records'.
+pub fn check_offsets(table: &[u8], source: &[u8], offsets: &[u8]) -> Verdict
+    ensures { λ r. ⌜ r ≡ offsetVerdict (now (table .entry)) (length (now (source .entry))) (length (now (offsets .entry))) ⌝ }
+{
+    verdict_on(table, source.len(), 0, offsets.len())
 }
 
 // Refusal 8: the record is no node of the table.

@@ -1,14 +1,15 @@
--- How the check goes through the records: what it carries along, and what it finds at a record.
+-- How the check goes through the records: what it carries along, and what it finds at a record; and the one verdict behind its three forms.
 -- Definitions only. A reader of the verdict needs none of them.
 use Prim.Native.Nat.{ℕ, zero, suc, _+_}
 use mathlib.Core.Bool.{Bool, cond, not, _&&_, _||_}
-use mathlib.Core.List.{List}
+use mathlib.Core.List.{List, [], _∷_}
 use lib.Dec.{ltb, eqb}
 use Rattle.table.specs.declared.record.Rec.{Rec}
 use Rattle.table.specs.declared.check.Known.{Known}
+use Rattle.table.specs.declared.check.Verdict.{Verdict}
 use Rattle.table.specs.Kinds.{isNode, isToken}
-use Rattle.table.specs.Table.{kindAt, depthAt}
-use Rattle.table.specs.Rules.{mostDepth, lastEnd}
+use Rattle.table.specs.Table.{count, kindAt, depthAt}
+use Rattle.table.specs.Rules.{mostDepth, lastEnd, badLength, tooLong, badOffsets, rule, rulesFrom, first}
 
 -- how deep the record after one of kind k and depth d may be: one below a node, and no deeper than a token
 abbrev pub below : ℕ → ℕ → ℕ
@@ -51,3 +52,7 @@ misfitOf b r =
     (cond (outOfPlace b r) 4
     (cond (ltb mostDepth (r .depth)) 5
     0))
+
+-- the verdict on a table, a source, a message and offsets of these lengths, of which a question takes the source alone or the source and one more
+unfoldable pub verdictOn : List ℕ → ℕ → ℕ → ℕ → Verdict
+verdictOn t n m b = first (rule 1 0 (badLength t) ∷ rule 2 0 (tooLong n m) ∷ rule 10 0 (badOffsets b) ∷ rulesFrom t n 0 (count t))

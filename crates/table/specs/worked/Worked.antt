@@ -9,7 +9,7 @@ use Rattle.table.specs.declared.check.Verdict.the-variants.{Admitted, Re
 use Rattle.table.specs.declared.list.Listed.the-variants.{Entries, Refused as Denied}
 use Rattle.table.specs.Kinds.{file, selectStatement, subqueryExpression, expression, otherToken, whitespace, bareWord, arrow}
 use Rattle.table.specs.Table.{word}
-use Rattle.table.specs.Rules.{misplaced, nearest, lastEnd, badSpan, rulesFrom, verdict, rootVerdict, rule}
+use Rattle.table.specs.Rules.{misplaced, nearest, lastEnd, badSpan, rulesFrom, verdict, rootVerdict, offsetVerdict, rule}
 use Rattle.table.specs.Lists.{le4, rowBytes, listBytes, reply, buffer, listed, lent}
 
 -- the twenty bytes of a record that carries the parent p
@@ -102,6 +102,14 @@ the-check = refl
 roots : rootVerdict small 9 2 ∷ rootVerdict small 9 3 ∷ rootVerdict small 9 4 ∷ rootVerdict small 8 4 ∷ [] ≡ Admitted ∷ Refused 8 0 ∷ Refused 8 0 ∷ Refused 6 3 ∷ []
 unfolding rootVerdict rulesFrom misplaced nearest badSpan lastEnd word
 roots = refl
+
+-- ---- 10, after 2 and before 3: no offsets, the most, one more, a part of one; with 1, with 2 and with 3
+
+offsets : offsetVerdict small 9 0 ∷ offsetVerdict small 9 256 ∷ offsetVerdict small 9 260 ∷ offsetVerdict small 9 5 ∷ offsetVerdict [] 9 5
+    ∷ offsetVerdict small 65537 5 ∷ offsetVerdict (rec 56 0 0 0) 0 5 ∷ []
+    ≡ Admitted ∷ Admitted ∷ Refused 10 0 ∷ Refused 10 0 ∷ Refused 1 0 ∷ Refused 2 0 ∷ Refused 10 0 ∷ []
+unfolding offsetVerdict rulesFrom misplaced nearest badSpan lastEnd word
+offsets = refl
 
 -- ---- 7, after all: two entries of two numbers, in seventeen bytes, sixteen and fifteen, and refused by another rule before
 

@@ -1,4 +1,4 @@
-use Rattle.replies.specs.Reply.{contextRow}
+use Rattle.cursor.specs.Context.{contextRow}
 use Rattle.table.proofs.Writes.{written-one, length-wide, list-short, list-filled}
 use mathlib.Core.Path.{refl, sym}
 use mathlib.Core.List.{[], _∷_}

@@ -1,0 +1,3 @@
+// The contexts at all cursors of a shared page.
+pub mod cursors;
+mod starts;
