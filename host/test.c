@@ -231,7 +231,7 @@ static void longest_lists(void) {
     record(1, 0, 0, DESK_SOURCE_MAX);
     for (uint32_t i = 1; i < DESK_RECORDS_MAX; i++) {
         record(133, 1, 16 * i, 16 * (i + 1));
-        classes[3 * i - 3] = 16 * i; classes[3 * i - 2] = 16 * (i + 1); classes[3 * i - 1] = DESK_NUMBER;
+        classes[3 * i - 3] = 16 * i; classes[3 * i - 2] = 16 * (i + 1); classes[3 * i - 1] = DESK_CLASS_NUMBER;
     }
     in_rooms("token_classes", 0, classes, DESK_RECORDS_MAX - 1, DESK_CLASS_BYTES);
     for (uint32_t i = 1; i < DESK_RECORDS_MAX; i++) number(place(i, 0), 137), openers[i - 1] = i;
