@@ -98,8 +98,8 @@ enum desk_class {
     DESK_CLASS_VARIABLE, DESK_CLASS_TYPE, DESK_CLASS_PARAMETER, DESK_CLASS_PROPERTY
 };
 
-/* What is being typed. Of a half-typed column `r.x` the desk hears ColumnOfTable of r behind the dot, and SelectExpression behind the x: so it keeps the
- * list that it got at the dot, and filters it by what was typed since. */
+/* What is being typed. Of a half-typed column the desk hears ColumnOfTable of r behind the dot of `r.`, and SelectExpression behind the x of `r.x`: so it
+ * keeps the list that it made at the dot, and filters it by what was typed since. */
 enum desk_context {
     DESK_CONTEXT_SELECT_EXPRESSION,
     DESK_CONTEXT_TABLE_REFERENCE,

@@ -1,0 +1,123 @@
+/* What the desk says at the cursor, by its text: what is being typed, what the key would run, and the names before and now. */
+#include "show.h"
+#include <inttypes.h>
+#include <stdio.h>
+#include <stdlib.h>
+#include <string.h>
+
+static void show_typed(const struct page *page) {
+    static const char *const contexts[] = {"an expression to select", "a table", "a table of the database ", "a column of ", "an expression", "a setting",
+        "an engine", "a format", "a data type", "a codec", "argument ", "a statement", "nothing that is known"};
+    struct list list = ask(page, desk_cursor_context, page->cursor, DESK_CONTEXT_BYTES);
+    struct desk_context_entry e = desk_get_context(list.bytes, 0);
+    printf("  %-15s %s", "is being typed", contexts[e.context]);
+    if (e.context == DESK_CONTEXT_FUNCTION_ARGUMENT) printf("%" PRIu64 " of %s", (uint64_t)e.argument + 1, desk_absent(e.name) ? "a function" : "");
+    if (!desk_absent(e.name)) say_text(page, e.name);
+    printf("\n");
+    free(list.bytes);
+}
+
+/* the token that ends at the cursor or holds it, or the last before it; DESK_NONE where there is none */
+static uint32_t token_before(const struct page *page) {
+    uint32_t found = DESK_NONE;
+    for (uint32_t i = 0; i < page->records; i++) {
+        struct desk_record r = desk_get_record(page->table, i);
+        if (r.kind >= DESK_KIND_OTHER_TOKEN && r.kind != DESK_KIND_WHITESPACE && r.start < page->cursor) found = i;
+    }
+    return found;
+}
+
+/* The word that is typed so far, by which a desk filters what it offers; and what stands above it, nearest first. */
+static void show_token(const struct page *page) {
+    uint32_t token = token_before(page);
+    if (token == DESK_NONE) return;
+    struct desk_record r = desk_get_record(page->table, token);
+    if (r.kind == DESK_KIND_BARE_WORD && page->cursor <= r.end) {
+        struct desk_range typed = {r.start, page->cursor};
+        printf("  %-15s ", "so far");
+        say_text(page, typed);
+        printf("\n");
+    }
+    struct list list = ask(page, desk_records_above, token, DESK_ABOVE_BYTES);
+    printf("  %-15s ", "below");
+    for (uint32_t i = 0; i < list.count; i++)
+        printf("%s%s", i ? ", " : "", kind_name(desk_get_record(page->table, desk_get_above(list.bytes, i)).kind));
+    printf("\n");
+    free(list.bytes);
+}
+
+/* The statement that a key would run. Of two side by side that hold the cursor, the first on the page is taken: this says so. */
+static void show_run(const struct page *page) {
+    uint32_t statement = answered(page, desk_enclosing_statement(ASKED(page), page->cursor));
+    printf("  %-15s ", "the key runs");
+    if (statement == DESK_NONE) { printf("nothing\n"); return; }
+    say_text(page, span_of(page, statement));
+    printf("\n");
+    for (uint32_t i = statement + 1; i < page->records; i++) {
+        struct desk_record r = desk_get_record(page->table, i);
+        if (r.kind < DESK_KIND_SELECT_STATEMENT || r.kind > DESK_KIND_DESCRIBE_STATEMENT || r.start > page->cursor || page->cursor > r.end) continue;
+        printf("  %-15s ", "and not");
+        say_text(page, span_of(page, i));
+        printf(": of two side by side the first on the page\n");
+    }
+}
+
+void show_cursor(const struct page *page) {
+    printf("\nat the cursor: ");
+    say_place(page, page->cursor);
+    printf(" (offset %" PRIu32 ")\n", page->cursor);
+    show_typed(page);
+    show_token(page);
+    show_run(page);
+}
+
+/* An entry that stands in a list twice, as a JOIN below FROM gives it, is said once. */
+static int again(const struct list *list, size_t width, uint32_t i) {
+    for (uint32_t k = 0; k < i; k++)
+        if (!memcmp(list->bytes + width * k, list->bytes + width * i, width)) return 1;
+    return 0;
+}
+
+static void show_bindings(const struct page *page, const char *what, question *asked, uint32_t of) {
+    struct list list = ask(page, asked, of, DESK_BINDING_BYTES);
+    printf("  %-15s", what);
+    for (uint32_t i = 0; i < list.count; i++) {
+        if (again(&list, DESK_BINDING_BYTES, i)) continue;
+        printf(i ? ", " : " ");
+        say_text(page, desk_get_binding(list.bytes, i).name);
+    }
+    printf(list.count ? "\n" : " -\n");
+    free(list.bytes);
+}
+
+static void show_tables(const struct page *page, question *asked, uint32_t of) {
+    struct list list = ask(page, asked, of, DESK_REFERENCE_BYTES);
+    printf("  %-15s", "tables");
+    for (uint32_t i = 0; i < list.count; i++) {
+        struct desk_reference_entry e = desk_get_reference(list.bytes, i);
+        if (again(&list, DESK_REFERENCE_BYTES, i)) continue;
+        printf(i ? ", " : " ");
+        if (!desk_absent(e.database)) { say_text(page, e.database); printf("."); }
+        say_text(page, e.table);
+        if (!desk_absent(e.alias)) { printf(" as "); say_text(page, e.alias); }
+    }
+    printf(list.count ? "\n" : " -\n");
+    free(list.bytes);
+}
+
+/* Before: the names of the whole page, subqueries aside. Now: those of the query that the cursor stands in, and the WITH names that it sees. */
+void show_offers(const struct page *page) {
+    uint32_t root = answered(page, desk_cursor_root(ASKED(page), page->cursor));
+    printf("\nbefore: the names of the page, wherever the cursor stands\n");
+    show_bindings(page, "WITH names", desk_with_names, 0);
+    show_bindings(page, "table aliases", desk_table_aliases, 0);
+    show_bindings(page, "column aliases", desk_column_aliases, 0);
+    show_tables(page, desk_table_refs, 0);
+    printf("now: the names of ");
+    say_text(page, span_of(page, root));
+    printf("\n");
+    show_bindings(page, "WITH names", desk_with_names_at, page->cursor);
+    show_bindings(page, "table aliases", desk_table_aliases_at, page->cursor);
+    show_bindings(page, "column aliases", desk_column_aliases_at, page->cursor);
+    show_tables(page, desk_table_refs_at, page->cursor);
+}
