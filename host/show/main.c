@@ -1,4 +1,4 @@
-/* page FILE: shows a page as a desk would. page --frame OFFSET FILE: writes it as a frame for glance. */
+/* page FILE: shows a page as a desk would. page --frame OFFSET FILE: writes it as a frame for glance. page --cursors OFFSETS FILE: what is typed at each. */
 #define _POSIX_C_SOURCE 200809L
 #include "show.h"
 #include <errno.h>
@@ -9,6 +9,7 @@
 
 static const char help[] =
     "host/page [--at OFFSET] [--colour | --plain] [FILE]   shows a page as the desk would, at its cursor or at OFFSET\n"
+    "host/page --cursors OFFSET,OFFSET.. [FILE]            says what is being typed at each of up to 64 cursors, in one call\n"
     "host/page --frame OFFSET [FILE]                       writes it as a frame for ./glance\n"
     "\n"
     "FILE is a page: the source, a line ---, and the tree, a line a node or token (docs/GUIDE.md, host/pages/*.page); - is standard input. Without\n"
@@ -45,13 +46,14 @@ static int show(const struct page *page, int colours) {
 
 int main(int argc, char **argv) {
     struct page page = {0};
-    const char *name = NULL, *at = NULL, *frame = NULL;
+    const char *name = NULL, *at = NULL, *frame = NULL, *cursors = NULL;
     int colours = coloured();
     for (int i = 1; i < argc; i++) {
         if (!strcmp(argv[i], "--help") || !strcmp(argv[i], "-h")) { fputs(help, stdout); return 0; }
         else if (!strcmp(argv[i], "--colour") || !strcmp(argv[i], "--color")) colours = 1;
         else if (!strcmp(argv[i], "--plain")) colours = 0;
         else if (!strcmp(argv[i], "--at")) at = argv[++i], offset(at);
+        else if (!strcmp(argv[i], "--cursors")) { if (!(cursors = argv[++i])) bad("cursors are offsets with a comma between two", ""); }
         else if (!strcmp(argv[i], "--frame")) frame = argv[++i], offset(frame);
         else if (argv[i][0] == '-' && argv[i][1]) bad("no such word: ", argv[i]);
         else if (name) bad("one page at a time, and not also ", argv[i]);
@@ -60,7 +62,7 @@ int main(int argc, char **argv) {
     if (!name) bad("no page named", "");
     read_page(&page, name);
     if (at) page.cursor = offset(at);
-    int status = frame ? write_frame(&page, offset(frame)) : show(&page, colours);
+    int status = frame ? write_frame(&page, offset(frame)) : cursors ? show_cursors(&page, cursors) : show(&page, colours);
     if (fflush(stdout) || ferror(stdout)) { fprintf(stderr, "page: cannot write what is to be shown\n"); return 2; }
     free(page.text);
     free(page.table);

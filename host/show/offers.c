@@ -5,15 +5,19 @@
 #include <stdlib.h>
 #include <string.h>
 
-static void show_typed(const struct page *page) {
+void say_context(const struct page *page, struct desk_context_entry e) {
     static const char *const contexts[] = {"an expression to select", "a table", "a table of the database ", "a column of ", "an expression", "a setting",
         "an engine", "a format", "a data type", "a codec", "argument ", "a statement", "nothing that is known"};
-    struct list list = ask(page, desk_cursor_context, page->cursor, DESK_CONTEXT_BYTES);
-    struct desk_context_entry e = desk_get_context(list.bytes, 0);
-    printf("  %-15s %s", "is being typed", contexts[e.context]);
+    printf("%s", contexts[e.context]);
     if (e.context == DESK_CONTEXT_FUNCTION_ARGUMENT) printf("%" PRIu64 " of %s", (uint64_t)e.argument + 1, desk_absent(e.name) ? "a function" : "");
     if (!desk_absent(e.name)) say_text(page, e.name);
     printf("\n");
+}
+
+static void show_typed(const struct page *page) {
+    struct list list = ask(page, desk_cursor_context, page->cursor, DESK_CONTEXT_BYTES);
+    printf("  %-15s ", "is being typed");
+    say_context(page, desk_get_context(list.bytes, 0));
     free(list.bytes);
 }
 

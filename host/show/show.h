@@ -1,4 +1,4 @@
-/* A small host in parts: a page is read from its readable form (read.c, kinds.c), shown as a desk would (screen.c, offers.c, list.c), or written as a
+/* A small host in parts: a page is read from its readable form (read.c, kinds.c), shown as a desk would (screen.c, offers.c, cursors.c, list.c), or written as a
  * frame for glance (frame.c). It uses the header and the archive only. */
 #ifndef SHOW_H
 #define SHOW_H
@@ -49,7 +49,11 @@ void show_classes(const struct page *page, int colours);
 char *bracket_marks(const struct page *page);
 void show_brackets(const struct page *page);
 
+/* cursors.c: offsets as they are given, with a comma between two; 0, or 2 where they are no numbers */
+int show_cursors(const struct page *page, const char *given);
+
 /* offers.c */
+void say_context(const struct page *page, struct desk_context_entry e);
 void show_cursor(const struct page *page);
 void show_offers(const struct page *page);
 #endif
