@@ -12,16 +12,20 @@ use native.Mathlib.Nat.{mul-div-cancel}
 use borrow.Author.Tests.{lt-ltb, le-ltb}
 use lib.ListN.{length}
 use Rattle.table.specs.Table.{count, depthAt, parentAt}
-use Rattle.table.specs.Rules.{mostRecords, noSuchRecord, Rule, rule, rules, numberRules, first, verdict}
-use Rattle.table.specs.declared.check.Verdict.{Verdict}
-use Rattle.table.specs.declared.check.Verdict.the-variants.{Admitted, Refused}
-use Rattle.table.specs.declared.list.Listed.the-variants.{Entries, Refused as Denied}
-use Rattle.table.specs.Lists.{numberBytes, put, listBytes, Written, Answers}
-use Rattle.table.specs.Above.{aboveAmong, above, Climbs}
-use Rattle.table.proofs.Writes.{written-none, written-one, written-then, length-wide, list-filled, list-short}
-use Rattle.table.proofs.Checks.{then-refused, then-admitted, rules-refused, rules-passed}
-use Rattle.table.proofs.Sense.{admitted-tidy}
-use Rattle.table.proofs.Above.{climbs, above-deep}
+use Rattle.table.specs.Rules.{mostRecords, noSuchRecord, rules, numberRules, verdict}
+use Rattle.lent.specs.Verdicts.{Rule, rule, first}
+use Rattle.lent.specs.declared.verdict.Verdict.{Verdict}
+use Rattle.lent.specs.declared.verdict.Verdict.the-variants.{Admitted, Refused}
+use Rattle.lent.specs.declared.list.Listed.the-variants.{Entries, Refused as Denied}
+use Rattle.lent.specs.Numbers.{numberBytes}
+use Rattle.lent.specs.Lists.{put, listBytes, Written, Answers}
+use Rattle.forest.specs.Above.{aboveAmong, above}
+use Rattle.forest.specs.inner.Climbing.{Climbs}
+use Rattle.lent.proofs.Writes.{written-none, written-one, written-then, length-wide, list-filled, list-short}
+use Rattle.lent.proofs.Verdicts.{then-refused, then-admitted}
+use Rattle.table.proofs.Checks.{rules-refused, rules-passed}
+use Rattle.forest.proofs.Sense.{admitted-tidy}
+use Rattle.forest.proofs.Above.{climbs, above-deep}
 use Rattle.above.specs.Above.{aboveRow}
 use Rattle.above.specs.inner.Deep.{Deep}
 

@@ -1,11 +1,11 @@
 // The records above a record, nearest first: its parent, then that one's, up to record 0 (document 02, §8).
-use table::check::NO_ROOM;
+use lent::list::Listed;
+use lent::list::put_entry;
+use lent::number::NUMBER_BYTES;
+use lent::verdict::NO_ROOM;
+use lent::verdict::Verdict;
 use table::check::NO_ROOT;
-use table::check::Verdict;
 use table::check::check;
-use table::list::Listed;
-use table::list::NUMBER_BYTES;
-use table::list::put_entry;
 use table::record::count_of;
 use table::record::depth_at;
 use table::record::parent_at;
@@ -15,8 +15,9 @@ ghost use Prim.Native.Nat.{_<_, _≤_};
 ghost use lib.ListN.{length};
 ghost use Rattle.table.specs.Table.{count, depthAt};
 ghost use Rattle.table.specs.Rules.{mostRecords, mostDepth, numberRules};
-ghost use Rattle.table.specs.Lists.{Written, Answers};
-ghost use Rattle.table.specs.Above.{above, Climbs};
+ghost use Rattle.lent.specs.Lists.{Written, Answers};
+ghost use Rattle.forest.specs.Above.{above};
+ghost use Rattle.forest.specs.inner.Climbing.{Climbs};
 ghost use Rattle.above.specs.Above.{aboveRow};
 ghost use Rattle.above.specs.inner.Deep.{Deep};
 

@@ -13,16 +13,17 @@ use lib.ListN.{length, getD, set, take, drop, length-take, length-drop, length-m
 use lib.Seq.{getD-set-same, getD-set-other, take-suc, take-all, take-length, take-append-le, length-take-le}
 use Rattle.table.specs.declared.record.Rec.{Rec}
 use Rattle.table.specs.Table.{recordBytes, count, kindAt, recordAt, records}
-use Rattle.table.specs.Forest.{Forest, nil, token, node, kids}
-use Rattle.table.specs.declared.check.Verdict.{Verdict}
-use Rattle.table.specs.declared.check.Verdict.the-variants.{Admitted, Refused}
+use Rattle.forest.specs.Forest.{Forest, nil, token, node, kids}
+use Rattle.lent.specs.declared.verdict.Verdict.{Verdict}
+use Rattle.lent.specs.declared.verdict.Verdict.the-variants.{Admitted, Refused}
 use Rattle.brackets.specs.declared.bracket_matching.HintReply.the-variants.{Hinted, Refused as Away}
-use Rattle.table.specs.declared.list.Listed.the-variants.{Entries, Refused as Denied}
-use Rattle.table.specs.Lists.{numberBytes, put, Written, listed, lent}
-use Rattle.table.specs.Text.{same}
-use Rattle.table.proofs.Laws.{lt-or-le, eq-or-not}
-use Rattle.table.proofs.Texts.{both, differ}
-use Rattle.table.proofs.Writes.{written-none, written-one, written-then, length-wide, list-filled, list-short}
+use Rattle.lent.specs.declared.list.Listed.the-variants.{Entries, Refused as Denied}
+use Rattle.lent.specs.Numbers.{numberBytes}
+use Rattle.lent.specs.Lists.{put, Written, listed, lent}
+use Rattle.lent.specs.Text.{same}
+use Rattle.lent.proofs.Cases.{lt-or-le, eq-or-not, both}
+use Rattle.lent.proofs.Texts.{differ}
+use Rattle.lent.proofs.Writes.{written-none, written-one, written-then, length-wide, list-filled, list-short}
 use Rattle.brackets.specs.Brackets.{isOpener, isCloser, fits, closed, stackStep, left, stackLeft, indexOf, openersLeft, openerRow, holding, lastOpener, hintOf, hinted, StandsIn}
 use Rattle.brackets.specs.inner.BracketStack.{stacked, unpacked, stackOf, closedBy, steppedBy, leftBy, lastBy, hintBy}
 use Rattle.brackets.specs.declared.bracket_matching.Hint.{Hint}

@@ -9,10 +9,10 @@ use lib.ListN.{length, take}
 use Rattle.table.specs.declared.record.Rec.{Rec}
 use Rattle.table.specs.Kinds.{openingRound, openingSquare, openingCurly, closingRound, closingSquare, closingCurly}
 use Rattle.table.specs.Table.{records}
-use Rattle.table.specs.Forest.{Forest, nil, token, node, kids}
-use Rattle.table.specs.Text.{bytesOf, same}
-use Rattle.table.specs.declared.check.Verdict.{Verdict}
-use Rattle.table.specs.declared.check.Verdict.the-variants.{Admitted, Refused}
+use Rattle.forest.specs.Forest.{Forest, nil, token, node, kids}
+use Rattle.lent.specs.Text.{bytesOf, same}
+use Rattle.lent.specs.declared.verdict.Verdict.{Verdict}
+use Rattle.lent.specs.declared.verdict.Verdict.the-variants.{Admitted, Refused}
 use Rattle.brackets.specs.declared.bracket_matching.HintReply.{HintReply}
 use Rattle.brackets.specs.declared.bracket_matching.HintReply.the-variants.{Hinted, Refused as Denied}
 use Rattle.brackets.specs.declared.bracket_matching.Hint.{Hint}

@@ -9,16 +9,16 @@ use borrow.Author.Tests.{le-leb, lt-leb, lt-ltb, le-ltb}
 use lib.ListN.{drop}
 use Rattle.table.specs.Kinds.{lastNode}
 use Rattle.table.specs.Table.{recordBytes, count, kindAt, recordAt, records}
-use Rattle.table.specs.Forest.{kids, Child}
-use Rattle.table.proofs.Walks.{walk-here, walk-at-node, walk-on}
-use Rattle.table.proofs.Laws.{node-or-token}
+use Rattle.forest.specs.Forest.{kids, Child}
+use Rattle.forest.proofs.Walks.{walk-here, walk-at-node, walk-on}
+use Rattle.forest.proofs.Laws.{node-or-token}
 use Rattle.cursor.specs.declared.trailing.Clause.{Clause}
 use Rattle.cursor.specs.declared.trailing.Clause.the-variants.{NoClause, Ends}
 use Rattle.cursor.specs.declared.context.Answer.{Answer}
 use Rattle.cursor.specs.declared.context.Answer.the-variants.{GoOn}
 use Rattle.cursor.specs.Trailing.{lastClause, pastClause, pastEnd}
 use Rattle.cursor.specs.inner.Steps.{clauseAt, trailingFrom}
-use Rattle.table.proofs.Walking.{rest-inside, Walks, walks-none, walks-start, walks-end}
+use Rattle.forest.proofs.Walking.{rest-inside, Walks, walks-none, walks-start, walks-end}
 
 -- the loop at record i, where best is the last clause so far
 pub record Seeks (o : ℕ) (s : List ℕ) (i : ℕ) (best : Clause) : Type 0 where

@@ -12,14 +12,15 @@ use mathlib.Core.Logic.{⊎-elim}
 use native.Mathlib.Omega.{arith}
 use lib.Dec.{ltb, eqb}
 use Rattle.table.specs.declared.record.Rec.{Rec}
-use Rattle.table.specs.declared.check.Verdict.the-variants.{Admitted}
+use Rattle.lent.specs.declared.verdict.Verdict.the-variants.{Admitted}
 use Rattle.table.specs.Kinds.{lastNode, file, bareWord, openingRound, identifier, selectClause, fromClause, prewhereClause, whereClause, groupByClause, havingClause, orderByClause, settingsClause, formatClause, joinConstraint}
 use Rattle.table.specs.Table.{count, kindAt, startAt, recordAt, run, from}
-use Rattle.table.specs.Forest.{Forest, nil, token, node, level, kids, inside}
+use Rattle.forest.specs.Forest.{Forest, nil, token, node, level, kids, inside}
 use Rattle.table.specs.Rules.{verdict}
-use Rattle.table.specs.Sense.{Tidy}
-use Rattle.table.proofs.Laws.{lt-or-le, node-or-token, level-shallow, level-deep, level-token, level-node, from-end}
-use Rattle.table.proofs.Sense.{admitted-tidy}
+use Rattle.forest.specs.Sense.{Tidy}
+use Rattle.lent.proofs.Cases.{lt-or-le}
+use Rattle.forest.proofs.Laws.{node-or-token, level-shallow, level-deep, level-token, level-node, from-end}
+use Rattle.forest.proofs.Sense.{admitted-tidy}
 use Rattle.tokens.specs.declared.last_token.Name.{Name}
 use Rattle.tokens.specs.declared.last_token.Name.the-variants.{Nameless, Named}
 use Rattle.cursor.specs.declared.context.CursorContext.{CursorContext}

@@ -7,12 +7,12 @@ use mathlib.Core.List.{List}
 use native.Mathlib.Omega.{arith}
 use borrow.Author.Tests.{eq-eqb, ne-eqb}
 use lib.ListN.{drop}
-use Rattle.table.specs.declared.check.Verdict.{Verdict}
-use Rattle.table.specs.declared.check.Verdict.the-variants.{Admitted, Refused}
+use Rattle.lent.specs.declared.verdict.Verdict.{Verdict}
+use Rattle.lent.specs.declared.verdict.Verdict.the-variants.{Admitted, Refused}
 use Rattle.table.specs.Table.{recordBytes, count, kindAt, records}
-use Rattle.table.specs.Forest.{kids, inside}
+use Rattle.forest.specs.Forest.{kids, inside}
 use Rattle.table.specs.Rules.{verdict}
-use Rattle.table.proofs.Sense.{admitted-tidy}
+use Rattle.forest.proofs.Sense.{admitted-tidy}
 use Rattle.path.specs.declared.gathered.Gathered.{Gathered}
 use Rattle.cursor.specs.declared.context.CursorContext.{CursorContext}
 use Rattle.cursor.specs.declared.context.Answer.{Answer}
@@ -21,8 +21,8 @@ use Rattle.cursor.specs.declared.context.ContextReply.{ContextReply}
 use Rattle.cursor.specs.declared.context.ContextReply.the-variants.{Context, Refused as Denied}
 use Rattle.cursor.specs.CursorContext.{lastRule, givenOr, contextReply}
 use Rattle.cursor.specs.inner.Steps.{trailingFrom, givenBy, told, ruledBy, analyzed}
-use Rattle.table.proofs.Visits.{rest-kind}
-use Rattle.table.proofs.Walking.{rest-inside}
+use Rattle.forest.proofs.Visits.{rest-kind}
+use Rattle.forest.proofs.Walking.{rest-inside}
 
 module _ (src t : List ℕ) (o : ℕ) (g : Gathered) {a : Answer} (e : a ≡ trailingFrom t o (g .statement)) where
   pub first-given : {x : CursorContext} → a ≡ Given x → x ≡ analyzed src t o g

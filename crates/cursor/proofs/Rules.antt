@@ -10,8 +10,8 @@ use lib.Dec.{eqb}
 use Rattle.table.specs.declared.record.Rec.{Rec}
 use Rattle.table.specs.Kinds.{joinConstraint}
 use Rattle.table.specs.Table.{kindAt}
-use Rattle.table.specs.Forest.{Forest, inside}
-use Rattle.table.specs.Descent.{along}
+use Rattle.forest.specs.Forest.{Forest, inside}
+use Rattle.forest.specs.Descent.{along}
 use Rattle.path.specs.declared.gathered.Next.{Next}
 use Rattle.path.specs.declared.gathered.Next.the-variants.{Deepest, Above}
 use Rattle.path.specs.declared.gathered.Gathered.{Gathered}

@@ -5,8 +5,8 @@ use mathlib.Core.Bool.{Bool, true, cond, _&&_}
 use mathlib.Core.List.{List}
 use lib.Dec.{eqb}
 use Rattle.table.specs.declared.record.Rec.{Rec}
-use Rattle.table.specs.declared.check.Verdict.{Verdict}
-use Rattle.table.specs.declared.check.Verdict.the-variants.{Admitted, Refused}
+use Rattle.lent.specs.declared.verdict.Verdict.{Verdict}
+use Rattle.lent.specs.declared.verdict.Verdict.the-variants.{Admitted, Refused}
 use Rattle.table.specs.Kinds.{file}
 use Rattle.table.specs.Table.{kindAt}
 use Rattle.tokens.specs.declared.last_token.Name.{Name}
@@ -18,7 +18,7 @@ use Rattle.cursor.specs.declared.context.Answer.the-variants.{GoOn, Give
 use Rattle.cursor.specs.declared.context.ContextReply.{ContextReply}
 use Rattle.cursor.specs.declared.context.ContextReply.the-variants.{Context, Refused as Denied}
 use Rattle.path.specs.Path.{pathAt}
-use Rattle.table.specs.Forest.{inside}
+use Rattle.forest.specs.Forest.{inside}
 use Rattle.tokens.specs.LastToken.{lastTwo, isText, semicolon}
 use Rattle.cursor.specs.Trailing.{trailingRule}
 use Rattle.cursor.specs.PathRules.{pathRule}

@@ -7,7 +7,7 @@ use mathlib.Core.Option.{Option, none, some}
 use lib.Dec.{leb, ltb, eqb}
 use Rattle.table.specs.declared.record.Rec.{Rec}
 use Rattle.table.specs.Kinds.{selectClause, fromClause, prewhereClause, whereClause, groupByClause, havingClause, orderByClause, settingsClause, formatClause}
-use Rattle.table.specs.Forest.{Forest, nil, token, node, inside}
+use Rattle.forest.specs.Forest.{Forest, nil, token, node, inside}
 use Rattle.tokens.specs.declared.last_token.Name.the-variants.{Nameless}
 use Rattle.cursor.specs.declared.context.CursorContext.the-variants.{SelectExpression, TableReference, Expression, SettingName, FormatName}
 use Rattle.cursor.specs.declared.context.Answer.{Answer}

@@ -1,6 +1,8 @@
 // The trailing rule: the offset may stand past the end of a statement's last clause.
 use crate::context::Answer;
 use crate::context::CursorContext;
+use forest::stretch::child_from;
+use forest::stretch::rest_from;
 use table::kinds::FORMAT_CLAUSE;
 use table::kinds::FROM_CLAUSE;
 use table::kinds::GROUP_BY_CLAUSE;
@@ -15,13 +17,11 @@ use table::record::count_of;
 use table::record::end_at;
 use table::record::kind_at;
 use table::record::start_at;
-use table::stretch::child_from;
-use table::stretch::rest_from;
 use tokens::last_token::Name;
 ghost use mathlib.Core.Path.{_≡_};
 ghost use Prim.Native.Nat.{ℕ, _+_, _-_, _≤_, _<_};
 ghost use Rattle.table.specs.Table.{count, records};
-ghost use Rattle.table.specs.Forest.{kids};
+ghost use Rattle.forest.specs.Forest.{kids};
 ghost use Rattle.cursor.specs.inner.Steps.{clauseAt, trailingFrom};
 ghost use Rattle.cursor.specs.Trailing.{lastClause, pastClause};
 ghost use Rattle.cursor.specs.declared.trailing.Clause.the-variants.{NoClause};

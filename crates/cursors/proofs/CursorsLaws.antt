@@ -12,15 +12,17 @@ use native.Mathlib.Nat.{mul-div-cancel}
 use borrow.Author.Tests.{ltb-false}
 use lib.Dec.{ltb}
 use lib.ListN.{length, length-map}
-use Rattle.table.specs.Table.{count, word}
-use Rattle.table.specs.Rules.{mostOffsets, offsetBytes, badLength, tooLong, badOffsets, rulesFrom, offsetRules, first, verdict, offsetVerdict}
-use Rattle.table.specs.declared.check.Verdict.{Verdict}
-use Rattle.table.specs.declared.check.Verdict.the-variants.{Admitted, Refused}
-use Rattle.table.specs.declared.list.Listed.the-variants.{Entries, Refused as Denied}
-use Rattle.table.specs.Lists.{numberBytes, put, listBytes, Written, Answers}
-use Rattle.table.proofs.Writes.{written-none, written-one, written-then, length-wide, list-filled, list-short}
-use Rattle.table.proofs.Orders.{admitted-ordered}
-use Rattle.table.proofs.Sense.{admitted-sized}
+use Rattle.table.specs.Table.{count}
+use Rattle.lent.specs.Numbers.{word, numberBytes}
+use Rattle.table.specs.Rules.{mostOffsets, offsetBytes, badLength, tooLong, badOffsets, rulesFrom, offsetRules, verdict, offsetVerdict}
+use Rattle.lent.specs.Verdicts.{first}
+use Rattle.lent.specs.declared.verdict.Verdict.{Verdict}
+use Rattle.lent.specs.declared.verdict.Verdict.the-variants.{Admitted, Refused}
+use Rattle.lent.specs.declared.list.Listed.the-variants.{Entries, Refused as Denied}
+use Rattle.lent.specs.Lists.{put, listBytes, Written, Answers}
+use Rattle.lent.proofs.Writes.{written-none, written-one, written-then, length-wide, list-filled, list-short}
+use Rattle.forest.proofs.Orders.{admitted-ordered}
+use Rattle.forest.proofs.Sense.{admitted-sized}
 use Rattle.cursor.specs.declared.context.CursorContext.{CursorContext}
 use Rattle.cursor.specs.declared.context.Coded.{Coded}
 use Rattle.cursor.specs.Context.{coded, contextRow}

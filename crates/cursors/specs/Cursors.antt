@@ -3,7 +3,7 @@
 use Prim.Native.Nat.{ℕ, zero, suc, _+_, _*_, _/_}
 use mathlib.Core.List.{List, [], _∷_, map}
 use lib.ListN.{length}
-use Rattle.table.specs.Table.{word}
+use Rattle.lent.specs.Numbers.{word}
 use Rattle.table.specs.Rules.{offsetBytes}
 use Rattle.cursor.specs.declared.context.CursorContext.{CursorContext}
 use Rattle.cursor.specs.CursorContext.{contextAt}

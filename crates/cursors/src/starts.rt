@@ -1,11 +1,11 @@
 // Where each cursor's search among record 0's children may begin: one walk over the children for all cursors.
+use forest::stretch::child_from;
+use lent::number::word_at;
 use path::rules::chosen;
 use table::check::MOST_OFFSETS;
 use table::check::OFFSET_BYTES;
 use table::range::is_holder;
 use table::record::count_of;
-use table::record::word_at;
-use table::stretch::child_from;
 ghost use mathlib.Core.Path.{_≡_};
 ghost use mathlib.Core.Bool.{not, _&&_};
 ghost use Prim.Native.Nat.{_+_, _≤_, _<_};
@@ -14,7 +14,7 @@ ghost use lib.ListN.{length};
 ghost use Rattle.table.specs.Table.{count, kindAt, startAt, endAt};
 ghost use Rattle.table.specs.Kinds.{isNode};
 ghost use Rattle.table.specs.Ranges.{spans};
-ghost use Rattle.table.specs.Forest.{Child};
+ghost use Rattle.forest.specs.Forest.{Child};
 ghost use Rattle.cursors.specs.inner.Ready.{Ready, Begun};
 
 // A cursor whose search is at child i goes on to the next: the child does not hold its offset.

@@ -11,17 +11,18 @@ use borrow.Author.Tests.{lt-ltb, le-ltb, le-leb, lt-leb, eq-eqb}
 use lib.Dec.{leb, ltb, eqb}
 use lib.ListN.{length}
 use Rattle.table.specs.declared.record.Rec.{Rec}
-use Rattle.table.specs.declared.check.Verdict.the-variants.{Admitted}
+use Rattle.lent.specs.declared.verdict.Verdict.the-variants.{Admitted}
 use Rattle.table.specs.Table.{count, recordAt, records}
-use Rattle.table.specs.Forest.{Forest, nil, token, node, kids, inside}
+use Rattle.forest.specs.Forest.{Forest, nil, token, node, kids, inside}
 use Rattle.table.specs.Rules.{verdict}
-use Rattle.table.specs.Sense.{Tidy}
-use Rattle.table.specs.inner.Scan.{Reading, fold, ofTokens}
-use Rattle.table.specs.Descent.{path as way, pathOf, along}
-use Rattle.table.specs.Text.{text, bytesOf}
-use Rattle.table.proofs.Laws.{lt-or-le, from-cons}
-use Rattle.table.proofs.Scans.{fold-tokens}
-use Rattle.table.proofs.Sense.{admitted-tidy}
+use Rattle.forest.specs.Sense.{Tidy}
+use Rattle.forest.specs.inner.Scan.{Reading, fold, ofTokens}
+use Rattle.forest.specs.Descent.{path as way, pathOf, along}
+use Rattle.lent.specs.Text.{text, bytesOf}
+use Rattle.lent.proofs.Cases.{lt-or-le}
+use Rattle.forest.proofs.Laws.{from-cons}
+use Rattle.forest.proofs.Scans.{fold-tokens}
+use Rattle.forest.proofs.Sense.{admitted-tidy}
 use Rattle.table.specs.Ranges.{holds}
 use Rattle.roots.proofs.Counts.{decide}
 use Rattle.tokens.specs.declared.last_token.Name.{Name}

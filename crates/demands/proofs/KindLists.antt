@@ -8,7 +8,7 @@ use mathlib.Core.Logic.{⊎-elim}
 use native.Mathlib.Omega.{arith}
 use borrow.Author.Tests.{le-leb, lt-leb, eq-eqb, ne-eqb}
 use lib.Dec.{leb}
-use Rattle.table.proofs.Laws.{lt-or-le}
+use Rattle.lent.proofs.Cases.{lt-or-le}
 use Rattle.path.specs.Path.{oneOf}
 
 -- n kinds from a on

@@ -12,12 +12,13 @@ use mathlib.Core.Logic.{⊎-elim}
 use native.Mathlib.Omega.{arith}
 use borrow.Author.Tests.{lt-ltb, le-ltb}
 use lib.Dec.{ltb}
-use Rattle.table.specs.declared.check.Verdict.{Verdict}
-use Rattle.table.specs.declared.check.Verdict.the-variants.{Admitted, Refused}
+use Rattle.lent.specs.declared.verdict.Verdict.{Verdict}
+use Rattle.lent.specs.declared.verdict.Verdict.the-variants.{Admitted, Refused}
 use Rattle.table.specs.Table.{count}
-use Rattle.table.specs.Rules.{badLength, tooLong, badOffsets, rulesFrom, offsetRules, first, verdict}
+use Rattle.table.specs.Rules.{badLength, tooLong, badOffsets, rulesFrom, offsetRules, verdict}
+use Rattle.lent.specs.Verdicts.{first}
 use Rattle.table.specs.Exactly.{BadOffsets, Broken, broken-1, broken-2, broken-3, broken-4, broken-5, broken-12, broken-6, rank, place}
-use Rattle.table.proofs.Laws.{lt-or-le}
+use Rattle.lent.proofs.Cases.{lt-or-le}
 use Rattle.table.proofs.Exactly.{clash, bad-offsets, refused-exactly}
 use Rattle.demands.specs.Demand1.{past}
 

@@ -8,9 +8,9 @@ use native.Mathlib.Omega.{arith}
 use lib.ListN.{length, length-map, getD, take, drop}
 use lib.Seq.{drop-append-add, take-append-seam}
 use Rattle.table.specs.Table.{count}
-use Rattle.table.specs.Lists.{rowBytes, listBytes}
+use Rattle.lent.specs.Lists.{rowBytes, listBytes}
 use Rattle.table.specs.Exactly.{Broken}
-use Rattle.table.proofs.Writes.{length-row}
+use Rattle.lent.proofs.Writes.{length-row}
 use Rattle.cursor.specs.declared.context.CursorContext.{CursorContext as Typed}
 use Rattle.cursor.specs.Context.{contextRow}
 use Rattle.cursor.specs.CursorContext.{contextAt}

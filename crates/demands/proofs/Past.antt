@@ -11,12 +11,12 @@ use native.Mathlib.Nat.{add-zero, zero-add}
 use lib.ListN.{length}
 use Rattle.table.specs.declared.record.Rec.{Rec}
 use Rattle.table.specs.Table.{count, depthAt, recordAt, run, from}
-use Rattle.table.specs.Forest.{level, kids, inside}
-use Rattle.table.specs.inner.Scan.{ofTokens}
-use Rattle.table.specs.inner.Ordered.{Ordered}
-use Rattle.table.proofs.Laws.{from-cons, run-same}
-use Rattle.table.proofs.Orders.{admitted-ordered}
-use Rattle.table.proofs.Scans.{sweep, sweep-fold, fold-tokens}
+use Rattle.forest.specs.Forest.{level, kids, inside}
+use Rattle.forest.specs.inner.Scan.{ofTokens}
+use Rattle.forest.specs.inner.Ordered.{Ordered}
+use Rattle.forest.proofs.Laws.{from-cons, run-same}
+use Rattle.forest.proofs.Orders.{admitted-ordered}
+use Rattle.forest.proofs.Scans.{sweep, sweep-fold, fold-tokens}
 use Rattle.tokens.specs.declared.function.Arguments.{Arguments}
 use Rattle.tokens.specs.declared.sweep.Sought.{Sought}
 use Rattle.tokens.specs.declared.sweep.Sought.the-variants.{LastToken, ArgumentIndex}

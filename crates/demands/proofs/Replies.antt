@@ -15,21 +15,22 @@ use native.Mathlib.Omega.{arith}
 use borrow.Author.Tests.{lt-ltb, le-ltb, le-leb, ltb-true, ltb-false, leb-true, not-false}
 use lib.ListN.{length, length-map}
 use lib.Dec.{ltb}
-use Rattle.table.specs.declared.check.Verdict.{Verdict}
-use Rattle.table.specs.declared.check.Verdict.the-variants.{Admitted, Refused}
+use Rattle.lent.specs.declared.verdict.Verdict.{Verdict}
+use Rattle.lent.specs.declared.verdict.Verdict.the-variants.{Admitted, Refused}
 use Rattle.table.specs.Kinds.{isNode, expression}
 use Rattle.table.specs.Table.{count, kindAt}
-use Rattle.table.specs.Rules.{Rule, first, rules, rootRules, numberRules, offsetRules, badOffsets, noRoot, noSuchRecord, verdict}
-use Rattle.table.specs.Lists.{listBytes, roomRule, listVerdict, reply, buffer, listed, lent}
+use Rattle.lent.specs.Verdicts.{Rule, first}
+use Rattle.table.specs.Rules.{rules, rootRules, numberRules, offsetRules, badOffsets, noRoot, noSuchRecord, verdict}
+use Rattle.lent.specs.Lists.{listBytes, roomRule, listVerdict, reply, buffer, listed, lent}
 use Rattle.table.specs.Exactly.{BadOffsets, Broken, broken-1, broken-2, broken-3, broken-4, broken-5, broken-12, broken-6, rank, place, Least}
-use Rattle.table.proofs.Texts.{both}
+use Rattle.lent.proofs.Cases.{both}
 use Rattle.table.proofs.Exactly.{clash, bad-offsets, refused-exactly, admitted-exactly}
 use Rattle.brackets.specs.declared.bracket_matching.Hint.{Hint}
 use Rattle.brackets.specs.Brackets.{hinted}
 use Rattle.statement.specs.declared.statement.Enclosing.{Enclosing}
 use Rattle.statement.specs.declared.statement.Enclosing.the-variants.{Outside, Record}
 use Rattle.statement.specs.Statement.{told, statementReply}
-use Rattle.offers.specs.Root.{rootReply}
+use Rattle.cursor_root.specs.Root.{rootReply}
 use Rattle.replies.specs.Reply.{packed, answered, verdictReply, listReply, hintRecord, hintReply, statementNumber, rootNumber}
 use Rattle.demands.specs.declared.Question.{Question}
 use Rattle.demands.specs.Questions.{Asked, Said, number, Named, no-one, a-root, a-record, Matter, plain, ofOffsets, ofRoot, ofRecord, list, statementRecord, matter, answerOf, saidBytes, written}

@@ -14,18 +14,18 @@ use borrow.Author.Tests.{le-leb, lt-leb, leb-true}
 use lib.ListN.{length}
 use lib.Dec.{leb}
 use Rattle.table.specs.declared.record.Rec.{Rec}
-use Rattle.table.specs.declared.check.Verdict.the-variants.{Admitted}
+use Rattle.lent.specs.declared.verdict.Verdict.the-variants.{Admitted}
 use Rattle.table.specs.Kinds.{lastNode, selectStatement, describeStatement}
 use Rattle.table.specs.Table.{kindAt, recordAt, run, from}
-use Rattle.table.specs.Forest.{Forest, nil, token, node}
+use Rattle.forest.specs.Forest.{Forest, nil, token, node}
 use Rattle.table.specs.Rules.{verdict}
 use Rattle.table.specs.Ranges.{holds}
-use Rattle.table.specs.Sense.{Tidy, treeOf}
-use Rattle.table.specs.Places.{Place, places, nodesOf, selves, nodeRecords}
-use Rattle.table.proofs.Laws.{eq-or-not, node-or-token}
-use Rattle.table.proofs.Texts.{both}
-use Rattle.table.proofs.Sense.{admitted-tidy}
-use Rattle.table.proofs.Places.{stands, nodes-in-order}
+use Rattle.forest.specs.Sense.{Tidy, treeOf}
+use Rattle.forest.specs.Places.{Place, places, nodesOf, selves, nodeRecords}
+use Rattle.lent.proofs.Cases.{eq-or-not, both}
+use Rattle.forest.proofs.Laws.{node-or-token}
+use Rattle.forest.proofs.Sense.{admitted-tidy}
+use Rattle.forest.proofs.Places.{stands, nodes-in-order}
 use Rattle.table.proofs.Exactly.{admitted-exactly}
 use Rattle.statement.specs.declared.statement.Enclosing.{Enclosing}
 use Rattle.statement.specs.declared.statement.Enclosing.the-variants.{Outside, Record}

@@ -12,9 +12,8 @@ use borrow.Author.Tests.{eq-eqb, ne-eqb, lt-ltb, le-ltb, le-leb, lt-leb, ltb-tru
 use lib.Dec.{leb, ltb, eqb}
 use Rattle.table.specs.declared.record.Rec.{Rec}
 use Rattle.table.specs.Table.{recordAt, records}
-use Rattle.table.specs.Forest.{Forest, nil, token, node, kids}
-use Rattle.table.proofs.Laws.{lt-or-le}
-use Rattle.table.proofs.Texts.{both}
+use Rattle.forest.specs.Forest.{Forest, nil, token, node, kids}
+use Rattle.lent.proofs.Cases.{lt-or-le, both}
 use Rattle.table.specs.declared.range.Range.{Range}
 use Rattle.names.specs.declared.names.NameBinding.{NameBinding}
 use Rattle.tables.specs.declared.pending.TableRef.{TableRef}
@@ -26,7 +25,7 @@ use Rattle.statement.specs.declared.statement.Enclosing.{Enclosing}
 use Rattle.statement.specs.declared.statement.Enclosing.the-variants.{Outside, Record}
 use Rattle.table.specs.Ranges.{span, holds}
 use Rattle.names.specs.Names.{byteAt, isAs, isPart, isName, direct, unquoted, nameOf, firstNamed, lastNamed, withItem, aliasIn, binding as bind}
-use Rattle.scope.specs.Collection.{nodeGives, collected, collection, ownWith, ownColumns, ownTables}
+use Rattle.collection.specs.Collection.{nodeGives, collected, collection, ownWith, ownColumns, ownTables}
 use Rattle.names.specs.Bindings.{entry, boundIn, withItems, selectAliases}
 use Rattle.tables.specs.Tables.{fresh, aliased, Listing, handOn, listAlias, tableReading, references, aliases}
 use Rattle.statement.specs.Statement.{itself, isStatement, orElse, firstFind, enclosingAt}

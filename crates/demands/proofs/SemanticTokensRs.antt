@@ -10,20 +10,20 @@ use borrow.Author.Tests.{ltb-true, le-leb, leb-false}
 use lib.Dec.{ltb, eqb}
 use lib.ListN.{length}
 use Rattle.table.specs.declared.record.Rec.{Rec}
-use Rattle.table.specs.declared.check.Verdict.the-variants.{Admitted}
+use Rattle.lent.specs.declared.verdict.Verdict.the-variants.{Admitted}
 use Rattle.table.specs.Kinds.{isNode, lastNode}
 use Rattle.table.specs.Table.{count, kindAt, startAt, recordAt, run, from, records}
-use Rattle.table.specs.Forest.{Forest, nil, token, node, level, kids}
+use Rattle.forest.specs.Forest.{Forest, nil, token, node, level, kids}
 use Rattle.table.specs.Rules.{verdict}
-use Rattle.table.specs.Sense.{Tidy, Linked, inOrder, byDepth, treeOf}
-use Rattle.table.specs.Text.{text}
+use Rattle.forest.specs.Sense.{Tidy, Linked, inOrder, byDepth, treeOf}
+use Rattle.lent.specs.Text.{text}
 use Rattle.scope.specs.declared.semantic_tokens.TokenClass.{TokenClass}
 use Rattle.scope.specs.declared.semantic_tokens.TokenClass.the-variants.{Keyword, Function, StringLiteral, Number, Comment, Operator, Variable, TypeName, Parameter, Property, Unclassed}
 use Rattle.scope.specs.declared.semantic_tokens.ClassedToken.{ClassedToken}
 use Rattle.keywords.specs.Keywords.{isKeyword}
 use Rattle.scope.specs.Classes.{classesOf, between, judged, bareword, byParent, classOf, numberOf, entryOf, classes}
-use Rattle.table.proofs.Orders.{tidy-ordered}
-use Rattle.table.proofs.Sense.{admitted-tidy, whole-tree}
+use Rattle.forest.proofs.Orders.{tidy-ordered}
+use Rattle.forest.proofs.Sense.{admitted-tidy, whole-tree}
 use Rattle.keywords.proofs.KeywordLaws.{not-keyword}
 use Rattle.path.specs.Path.{oneOf}
 use Rattle.demands.specs.SemanticTokensRs.{«is_keyword», «classify_identifier_by_parent», tables, «classify_bareword», operators, «classify_token», pushClass, «collect_tokens», insert, sortByStart, compute, SemanticTokensRs}

@@ -14,11 +14,12 @@ use native.Mathlib.Nat.{zero-add}
 use Rattle.table.specs.declared.record.Rec.{Rec}
 use Rattle.table.specs.Kinds.{lastNode}
 use Rattle.table.specs.Table.{count, kindAt, depthAt, startAt, recordAt, run, from}
-use Rattle.table.specs.Forest.{Forest, nil, token, node, level, kids, inside}
-use Rattle.table.specs.Sense.{Tidy}
-use Rattle.table.specs.inner.Scan.{fold, ofTokens}
-use Rattle.table.proofs.Orders.{tidy-ordered}
-use Rattle.table.proofs.Laws.{lt-or-le, node-or-token, level-shallow, level-deep, level-token, level-node, from-cons, from-end}
+use Rattle.forest.specs.Forest.{Forest, nil, token, node, level, kids, inside}
+use Rattle.forest.specs.Sense.{Tidy}
+use Rattle.forest.specs.inner.Scan.{fold, ofTokens}
+use Rattle.forest.proofs.Orders.{tidy-ordered}
+use Rattle.lent.proofs.Cases.{lt-or-le}
+use Rattle.forest.proofs.Laws.{node-or-token, level-shallow, level-deep, level-token, level-node, from-cons, from-end}
 
 -- every token among siblings and below them starts at b or later
 unfoldable pub Since : ℕ → Forest → Type 0

@@ -6,9 +6,9 @@ use mathlib.Core.Path.{_≡_}
 use mathlib.Core.List.{List}
 use mathlib.Core.Logic.{_⊎_}
 use lib.ListN.{length}
-use Rattle.table.specs.declared.check.Verdict.the-variants.{Admitted}
+use Rattle.lent.specs.declared.verdict.Verdict.the-variants.{Admitted}
 use Rattle.table.specs.Table.{count, kindAt, startAt, recordAt}
-use Rattle.table.specs.Forest.{inside}
+use Rattle.forest.specs.Forest.{inside}
 use Rattle.table.specs.Rules.{verdict}
 use Rattle.table.specs.Exactly.{Node, Token}
 use Rattle.tokens.specs.LastToken.{lastTwo, dotted}

@@ -3,8 +3,8 @@
 use Prim.Native.Nat.{ℕ}
 use mathlib.Core.List.{List, [], _∷_, _++_, map}
 use lib.ListN.{length, drop}
-use Rattle.table.specs.Lists.{listBytes}
-use Rattle.table.specs.Above.{above}
+use Rattle.lent.specs.Lists.{listBytes}
+use Rattle.forest.specs.Above.{above}
 use Rattle.above.specs.Above.{aboveRow}
 use Rattle.statement.specs.declared.statement.Enclosing.{Enclosing}
 use Rattle.statement.specs.declared.statement.Enclosing.the-variants.{Outside, Record}
@@ -17,7 +17,7 @@ use Rattle.statement.specs.Statement.{enclosingAt}
 use Rattle.cursor.specs.Context.{contextRow}
 use Rattle.cursor.specs.CursorContext.{contextAt}
 use Rattle.cursors.specs.Cursors.{contextsAt}
-use Rattle.offers.specs.Root.{rootAt}
+use Rattle.cursor_root.specs.Root.{rootAt}
 use Rattle.offers.specs.WithNames.{withNamesAt}
 use Rattle.replies.specs.Reply.{noRecord as nothing, hintRecord}
 use Rattle.demands.specs.declared.Question.{Question}

@@ -7,7 +7,7 @@ use mathlib.Core.List.{List, List·Memᴰ}
 use mathlib.Core.Logic.{_↔_}
 use Rattle.table.specs.declared.record.Rec.{Rec}
 use Rattle.table.specs.Kinds.{selectStatement, describeStatement}
-use Rattle.table.specs.Places.{Place, nodesOf}
+use Rattle.forest.specs.Places.{Place, nodesOf}
 use Rattle.statement.specs.Statement.{insideOf}
 use Rattle.replies.specs.Reply.{noRecord as nothing, packed, answered}
 use Rattle.demands.specs.declared.Question.the-variants.{EnclosingStatement}

@@ -10,8 +10,8 @@ use lib.Dec.{leb, ltb, eqb}
 use Rattle.table.specs.declared.record.Rec.{Rec}
 use Rattle.table.specs.Kinds.{selectStatement, insertStatement, createStatement, alterStatement, deleteStatement, updateStatement, dropStatement, showStatement, explainStatement, describeStatement, withClause, selectClause, fromClause, joinClause, withExpressionItem, subqueryExpression, columnList, expressionList, tableIdentifier, tableExpression, tableAlias, columnAlias, bareWord, quotedIdentifier}
 use Rattle.table.specs.Table.{recordAt, records, part}
-use Rattle.table.specs.Forest.{Forest, nil, token, node, kids, stretchEnd}
-use Rattle.table.specs.Text.{bytesOf, text, says}
+use Rattle.forest.specs.Forest.{Forest, nil, token, node, kids, stretchEnd}
+use Rattle.lent.specs.Text.{bytesOf, text, says}
 use Rattle.table.specs.declared.range.Range.{Range}
 use Rattle.names.specs.declared.names.NameBinding.{NameBinding}
 use Rattle.tables.specs.declared.pending.TableRef.{TableRef}

@@ -8,12 +8,12 @@ use mathlib.Core.Option.{Option, none, some}
 use lib.Dec.{ltb, leb, eqb}
 use lib.ListN.{length}
 use Rattle.table.specs.declared.record.Rec.{Rec}
-use Rattle.table.specs.declared.check.Verdict.the-variants.{Admitted}
+use Rattle.lent.specs.declared.verdict.Verdict.the-variants.{Admitted}
 use Rattle.table.specs.Kinds.{tableIdentifier, tableExpression, tableAlias, columnAlias, dataType, dataTypeParameters, nestedDataType, functionCall, aggregateFunction, tableFunction, identifier, columnReference, qualifiedName, queryParameterExpression, databaseDefinition, tableDefinition, viewDefinition, materializedViewDefinition, dictionaryDefinition, expression, comment, bareWord, quotedIdentifier, number, stringToken, hereDoc, plus, arrow}
 use Rattle.table.specs.Table.{kindAt, records}
-use Rattle.table.specs.Forest.{Forest, nil, token, node, kids}
+use Rattle.forest.specs.Forest.{Forest, nil, token, node, kids}
 use Rattle.table.specs.Rules.{verdict}
-use Rattle.table.specs.Text.{bytesOf, upperWord, text}
+use Rattle.lent.specs.Text.{bytesOf, upperWord, text}
 use Rattle.scope.specs.declared.semantic_tokens.ClassedToken.{ClassedToken}
 use Rattle.keywords.specs.Keywords.{keywords, elem}
 use Rattle.scope.specs.Classes.{classesOf}

@@ -7,18 +7,19 @@ use mathlib.Core.Path.{_≡_, refl}
 use mathlib.Core.Bool.{false}
 use mathlib.Core.List.{List, [], _∷_, _++_, map, List·Memᴰ}
 use lib.ListN.{length}
-use Rattle.table.specs.declared.check.Verdict.the-variants.{Admitted}
+use Rattle.lent.specs.declared.verdict.Verdict.the-variants.{Admitted}
 use Rattle.table.specs.Kinds.{file, selectStatement, selectClause, fromClause, whereClause, subqueryExpression, tableIdentifier, tableAlias, columnReference, otherToken, bareWord, openingRound, closingRound}
-use Rattle.table.specs.Table.{word, kindAt, recordAt, run, from}
-use Rattle.table.specs.Forest.{level, kids, extent, stretchEnd}
-use Rattle.table.specs.Descent.{path, pathOf, along}
-use Rattle.table.specs.Tokens.{tokensOf, only}
+use Rattle.lent.specs.Numbers.{word}
+use Rattle.table.specs.Table.{kindAt, recordAt, run, from}
+use Rattle.forest.specs.Forest.{level, kids, extent, stretchEnd}
+use Rattle.forest.specs.Descent.{path, pathOf, along}
+use Rattle.forest.specs.Tokens.{tokensOf, only}
 use Rattle.table.specs.Rules.{rulesFrom, misplaced, nearest, lastEnd, badSpan, verdict}
-use Rattle.table.specs.Text.{bytesOf, upper, text, says}
+use Rattle.lent.specs.Text.{bytesOf, upper, text, says}
 use Rattle.table.specs.worked.Worked.{rec, child}
 use Rattle.names.specs.Names.{isAs, isPart, isName, direct, unquoted, nameOf, binding, lastNamed}
 use Rattle.names.specs.Bindings.{bindingRow}
-use Rattle.scope.specs.Collection.{nodeGives, collected, collection, ownWith, ownTables}
+use Rattle.collection.specs.Collection.{nodeGives, collected, collection, ownWith, ownTables}
 use Rattle.tables.specs.Tables.{fresh, aliased, handOn, listAlias, tableReading, referenceRow}
 use Rattle.scope.specs.Scope.{withNames}
 use Rattle.roots.specs.Nearest.{OneRoot, DeepestQuery, TableAliasOf, ColumnAliasOf, TableRefOf, OwnOrSeen}
@@ -29,10 +30,11 @@ use Rattle.cursor.specs.Trailing.{lastClause, pastClause, pastEnd, trailingIn}
 use Rattle.cursor.specs.PathRules.{columnOr, column, pathRules, ruled, elseAsk as either, byPath}
 use Rattle.cursor.specs.CursorContext.{lastRule, givenOr, contextAt}
 use Rattle.cursor.specs.Context.{rangeOf, coded, contextRow}
-use Rattle.offers.specs.Root.{statementOr, rootOf, rootAt}
-use Rattle.table.specs.Above.{aboveAmong}
+use Rattle.cursor_root.specs.Root.{statementOr, rootOf, rootAt}
+use Rattle.forest.specs.Above.{aboveAmong}
 use Rattle.offers.specs.Enclosing.{queries, someQuery, beyond, statementAmong, lastRoot, rootsAmong, enclosingRoots}
-use Rattle.offers.specs.WithNames.{items, itemsBefore, boundBy, ownSeen, seenOfAll, offeredIn}
+use Rattle.seen.specs.Seen.{items, itemsBefore, boundBy, ownSeen}
+use Rattle.offers.specs.WithNames.{seenOfAll, offeredIn}
 use Rattle.demands.specs.declared.Question.the-variants.{CursorContext, TableAliases, TableRefs, WithNamesAt, TableAliasesAt, ColumnAliasesAt, TableRefsAt}
 use Rattle.demands.specs.Questions.{Asked, asked, Said, number, rows, list, matter}
 use Rattle.table.specs.Ranges.{absentNumber}

@@ -1,11 +1,11 @@
 // The questions at an offset, for C: the context, that of many offsets at once, the enclosing statement, the cursor's root and its four lists.
 use cursor::context::ContextReply;
 use cursor::cursor_context::cursor_context;
+use cursor_root::root::cursor_root;
 use cursors::cursors::cursor_contexts;
 use offers::offers::column_aliases_at;
 use offers::offers::table_aliases_at;
 use offers::offers::table_refs_at;
-use offers::root::cursor_root;
 use offers::with_names::with_names_at;
 use replies::reply::list_context;
 use replies::reply::list_reply;
@@ -24,7 +24,7 @@ ghost use Rattle.statement.specs.Statement.{enclosingAt, statementReply};
 ghost use Rattle.cursor.specs.Context.{contextRow};
 ghost use Rattle.cursor.specs.CursorContext.{contextAt};
 ghost use Rattle.cursors.specs.Cursors.{contextsAt};
-ghost use Rattle.offers.specs.Root.{rootAt, rootReply};
+ghost use Rattle.cursor_root.specs.Root.{rootAt, rootReply};
 ghost use Rattle.replies.specs.Reply.{statementNumber, rootNumber, AnswersC};
 ghost use Rattle.offers.specs.WithNames.{withNamesAt};
 

@@ -17,7 +17,7 @@ use table::check::check;
 ghost use mathlib.Core.Path.{_≡_};
 ghost use lib.ListN.{length};
 ghost use Rattle.table.specs.Rules.{rules, rootRules, numberRules, verdict};
-ghost use Rattle.table.specs.Above.{above};
+ghost use Rattle.forest.specs.Above.{above};
 ghost use Rattle.above.specs.Above.{aboveRow};
 ghost use Rattle.scope.specs.Classes.{classRow as classRow, classesOf};
 ghost use Rattle.brackets.specs.Brackets.{openerRow as openerRow, stackLeft, openersLeft, hintOf, hinted};

@@ -14,11 +14,10 @@ use borrow.Author.Tests.{ne-eqb, lt-ltb, le-ltb, ltb-true, ltb-false}
 use lib.Dec.{eqb, ltb, leb}
 use lib.ListN.{length, take, drop, length-drop}
 use lib.Seq.{length-take-le, take-all, take-take, take-nil}
-use Rattle.table.specs.declared.check.Verdict.{Verdict}
-use Rattle.table.specs.declared.check.Verdict.the-variants.{Admitted, Refused}
-use Rattle.table.specs.Rules.{first}
-use Rattle.table.proofs.Laws.{lt-or-le}
-use Rattle.table.proofs.Texts.{both}
+use Rattle.lent.specs.declared.verdict.Verdict.{Verdict}
+use Rattle.lent.specs.declared.verdict.Verdict.the-variants.{Admitted, Refused}
+use Rattle.lent.specs.Verdicts.{first}
+use Rattle.lent.proofs.Cases.{lt-or-le, both}
 use Rattle.lines.specs.Lines.{Line, line, lf, lines, allDigits, isHex, isSource, isNumbers, mostBytes, mostLines, offsetDigits, recordDigits, lastLine, faulty, recordRules, frameRules}
 use Rattle.report.specs.Output.{refusalLine, unlessRefused, replied}
 use Rattle.frame.specs.Glance.{repliedTo, glanced}

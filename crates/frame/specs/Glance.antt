@@ -2,7 +2,7 @@
 -- Definitions only.
 use Prim.Native.Nat.{ℕ}
 use mathlib.Core.List.{List}
-use Rattle.table.specs.Rules.{first}
+use Rattle.lent.specs.Verdicts.{first}
 use Rattle.lines.specs.Lines.{Line, lines, frameRules}
 use Rattle.lines.specs.Frame.{sourceOf, offsetOf, tableOf}
 use Rattle.report.specs.Output.{unlessRefused, replied}

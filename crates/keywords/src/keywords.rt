@@ -1,10 +1,11 @@
 // Whether a bareword is a keyword.
+use lent::number::wide;
 ghost use mathlib.Core.Path.{_≡_};
 ghost use Prim.Native.Nat.{_≤_, _<_};
 ghost use mathlib.Core.Bool.{true};
 ghost use mathlib.Core.List.{flatten};
 ghost use lib.ListN.{length, getD};
-ghost use Rattle.table.specs.Text.{upper, says};
+ghost use Rattle.lent.specs.Text.{upper, says};
 ghost use Rattle.keywords.specs.Keywords.{isKeyword};
 ghost use Rattle.keywords.specs.inner.KeywordTable.{shortest, longest, cells, Lent, cellStart, Folds, letters, keywordsWith};
 
@@ -64,13 +65,6 @@ pub const STARTS: Starts = *b"\
     \xf2\x04\xf2\x04\x08\x05\x08\x05\x08\x05\x08\x05\x13\x05\x13\x05\x13\x05\x13\x05\x13\x05\x13\x05\x13\x05\
     \x13\x05\x13\x05\x13\x05\x13\x05\x1f\x05\x1f\x05\x1f\x05\x1f\x05\x2b\x05\x2b\x05\x2b\x05\x2b\x05\x2b\x05\x37\x05\
     \x37\x05\x37\x05\x37\x05\x37\x05\x37\x05\x37\x05\x37\x05\x43\x05\x43\x05\x43\x05\x43\x05\x43\x05\x43\x05";
-
-// A byte as a number.
-fn wide(x: u8) -> usize
-    ensures { λ r. ⌜ (r ≡ x) × (r < 256) ⌝ }
-{
-    x as usize
-}
 
 // Start i of the rows.
 fn cell_start(starts: &Starts, i: usize) -> usize

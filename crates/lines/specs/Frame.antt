@@ -3,8 +3,8 @@
 use Prim.Native.Nat.{ℕ, _+_, _*_}
 use mathlib.Core.List.{List, [], _∷_}
 use lib.ListN.{drop}
-use Rattle.table.specs.Lists.{listBytes}
-use Rattle.table.specs.Text.{text}
+use Rattle.lent.specs.Lists.{listBytes}
+use Rattle.lent.specs.Text.{text}
 use Rattle.lines.specs.Lines.{Line, value}
 
 -- v, and then digits after it, the most significant first

@@ -5,7 +5,7 @@ use mathlib.Core.Bool.{Bool, true, false, cond, not, _&&_, _||_}
 use mathlib.Core.List.{List, [], _∷_}
 use lib.ListN.{length, drop}
 use lib.Dec.{ltb, leb, eqb}
-use Rattle.table.specs.Rules.{Rule, rule}
+use Rattle.lent.specs.Verdicts.{Rule, rule}
 
 -- ---- the lines
 

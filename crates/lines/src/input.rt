@@ -1,12 +1,12 @@
 // A frame's lines: hexadecimal digits to the source, the offset and the table.
-use table::list::put_entry;
+use lent::list::put_entry;
+use lent::text::text_of;
 use table::record::RECORD_BYTES;
-use table::text::text_of;
 ghost use mathlib.Core.Path.{_≡_};
 ghost use Prim.Native.Nat.{_+_, _*_, _≤_, _<_};
 ghost use lib.ListN.{length, drop};
 ghost use lib.Seq.{sets};
-ghost use Rattle.table.specs.Lists.{put};
+ghost use Rattle.lent.specs.Lists.{put};
 ghost use Rattle.lines.specs.Lines.{lines, isDigit, value, allDigits, isHex, isSource, isNumbers, mostBytes};
 ghost use Rattle.lines.specs.Frame.{hexNumber, pairs, fieldsOf};
 ghost use Rattle.lines.specs.inner.Reading.{lineSpan, lineTo, tableRoom, ReadRecords, ReadFrame};

@@ -11,10 +11,10 @@ use lib.Dec.{eqb}
 use Rattle.table.specs.declared.record.Rec.{Rec}
 use Rattle.table.specs.Kinds.{lastNode, bareWord, quotedIdentifier}
 use Rattle.table.specs.Table.{count, kindAt, recordAt}
-use Rattle.table.specs.Forest.{Forest, nil, token, node}
-use Rattle.table.specs.Text.{bytesOf, text, says}
-use Rattle.table.proofs.Walks.{Walk, walk-here}
-use Rattle.table.proofs.Laws.{node-or-token}
+use Rattle.forest.specs.Forest.{Forest, nil, token, node}
+use Rattle.lent.specs.Text.{bytesOf, text, says}
+use Rattle.forest.proofs.Walks.{Walk, walk-here}
+use Rattle.forest.proofs.Laws.{node-or-token}
 use Rattle.names.specs.declared.names.NameBinding.{NameBinding}
 use Rattle.names.specs.declared.names.Bound.{Bound}
 use Rattle.names.specs.declared.names.Bound.the-variants.{Unnamed, Named}

@@ -9,8 +9,8 @@ use borrow.Author.Tests.{eqb-true}
 use lib.Dec.{eqb}
 use Rattle.table.specs.Kinds.{lastNode, withExpressionItem, columnList, expressionList, columnAlias}
 use Rattle.table.specs.Table.{count, kindAt, recordAt, records, part}
-use Rattle.table.specs.Forest.{Forest, nil, token, node, kids, stretchEnd}
-use Rattle.table.proofs.Laws.{head-part}
+use Rattle.forest.specs.Forest.{Forest, nil, token, node, kids, stretchEnd}
+use Rattle.forest.proofs.Laws.{head-part}
 use Rattle.names.specs.declared.names.Bound.{Bound}
 use Rattle.names.specs.declared.bindings.Binder.{Binder}
 use Rattle.names.specs.declared.bindings.Binder.the-variants.{Item, Alias}

@@ -7,12 +7,12 @@ use mathlib.Core.List.{List, [], _∷_, _++_}
 use lib.Dec.{eqb}
 use Rattle.table.specs.declared.record.Rec.{Rec}
 use Rattle.table.specs.Kinds.{withExpressionItem, columnList, expressionList, columnAlias}
-use Rattle.table.specs.Forest.{Forest, nil, token, node}
+use Rattle.forest.specs.Forest.{Forest, nil, token, node}
 use Rattle.names.specs.declared.names.NameBinding.{NameBinding}
 use Rattle.names.specs.declared.names.Bound.{Bound}
 use Rattle.names.specs.declared.names.Bound.the-variants.{Unnamed, Named}
 use Rattle.names.specs.Names.{withItem, aliasIn}
-use Rattle.table.specs.Lists.{numberBytes}
+use Rattle.lent.specs.Numbers.{numberBytes}
 
 -- ---- WITH items and column aliases
 

@@ -8,8 +8,8 @@ use lib.Dec.{leb, eqb}
 use lib.ListN.{getD}
 use Rattle.table.specs.declared.record.Rec.{Rec}
 use Rattle.table.specs.Kinds.{bareWord, quotedIdentifier}
-use Rattle.table.specs.Forest.{Forest, nil, token, node}
-use Rattle.table.specs.Text.{bytesOf, text, says}
+use Rattle.forest.specs.Forest.{Forest, nil, token, node}
+use Rattle.lent.specs.Text.{bytesOf, text, says}
 use Rattle.table.specs.declared.range.Range.{Range}
 use Rattle.names.specs.declared.names.NameBinding.{NameBinding}
 use Rattle.names.specs.declared.names.Bound.{Bound}

@@ -1,4 +1,7 @@
 // Names in a source: which tokens are names, and what a name is without its quotes.
+use forest::stretch::child_from;
+use lent::text::says;
+use lent::text::text_of;
 use table::kinds::BARE_WORD;
 use table::kinds::QUOTED_IDENTIFIER;
 use table::range::Range;
@@ -6,14 +9,11 @@ use table::range::span_of;
 use table::record::Rec;
 use table::record::count_of;
 use table::record::record_at;
-use table::stretch::child_from;
-use table::text::says;
-use table::text::text_of;
 ghost use mathlib.Core.Path.{_≡_};
 ghost use mathlib.Core.Bool.{cond};
 ghost use Prim.Native.Nat.{_+_, _≤_, _<_};
 ghost use Rattle.table.specs.Table.{count, recordAt, records};
-ghost use Rattle.table.specs.Forest.{kids};
+ghost use Rattle.forest.specs.Forest.{kids};
 ghost use Rattle.table.specs.Rules.{mostRecords};
 ghost use Rattle.names.specs.Names.{byteAt, isAs, isPart, isName, isMark, unquoted, nameOf, binding, withItem, aliasIn};
 

@@ -13,23 +13,25 @@ use lib.Dec.{ltb}
 use lib.ListN.{length}
 use Rattle.table.specs.Kinds.{subqueryExpression}
 use Rattle.table.specs.Table.{count, kindAt, parentAt, part}
-use Rattle.table.specs.Forest.{stretchEnd}
-use Rattle.table.specs.declared.list.Listed.the-variants.{Entries, Refused as Denied}
-use Rattle.table.specs.Lists.{listBytes, Written, Answers}
-use Rattle.table.proofs.Writes.{written-none, written-then, written-rows, length-wide, sized-written, sized-denied}
+use Rattle.forest.specs.Forest.{stretchEnd}
+use Rattle.lent.specs.declared.list.Listed.the-variants.{Entries, Refused as Denied}
+use Rattle.lent.specs.Lists.{listBytes, Written, Answers}
+use Rattle.lent.proofs.Writes.{written-none, written-then, written-rows, length-wide, sized-written, sized-denied}
 use Rattle.names.specs.declared.names.NameBinding.{NameBinding}
 use Rattle.names.specs.Bindings.{bindingRow, bindingBytes}
 use Rattle.tables.specs.inner.Rows.{asRow}
-use Rattle.scope.specs.declared.collection.Asked.the-variants.{WithNames}
-use Rattle.scope.specs.Collection.{collectionOf}
+use Rattle.collection.specs.declared.collection.Asked.the-variants.{WithNames}
+use Rattle.collection.specs.Collection.{collectionOf}
 use Rattle.scope.specs.Scope.{withNames}
-use Rattle.scope.specs.inner.Rows.{ownRows}
+use Rattle.collection.specs.inner.Rows.{ownRows}
 use Rattle.scope.proofs.Lists.{with-rows}
 use Rattle.path.specs.Path.{isSubquery}
 use Rattle.statement.specs.Statement.{isStatement}
-use Rattle.table.specs.Above.{aboveAmong, above, Climbs}
+use Rattle.forest.specs.Above.{aboveAmong, above}
+use Rattle.forest.specs.inner.Climbing.{Climbs}
 use Rattle.offers.specs.Enclosing.{rootsAmong, enclosingRoots}
-use Rattle.offers.specs.WithNames.{seenOf, seenOfAll, offeredIn}
+use Rattle.seen.specs.Seen.{seenOf}
+use Rattle.offers.specs.WithNames.{seenOfAll, offeredIn}
 use Rattle.offers.specs.inner.Climb.{outerRoot, outerNumber, lastOuter, rootsFrom}
 use Rattle.offers.proofs.Climbs.{roots-climb}
 

@@ -1,4 +1,3 @@
-// The scope at the cursor: its root, and the lists that are offered there.
+// The scope at the cursor: the lists of its root, and the WITH names that it sees of the roots around it.
 pub mod offers;
-pub mod root;
 pub mod with_names;

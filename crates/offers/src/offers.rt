@@ -1,19 +1,19 @@
 // The scope at the cursor: the aliases, columns and references of its root. The WITH names stand in with_names.
-use crate::root::root_at;
-use scope::collection::Asked;
+use collection::collection::Asked;
+use cursor_root::root::root_at;
+use lent::list::Listed;
+use lent::verdict::Verdict;
 use scope::scope::list_in;
-use table::check::Verdict;
 use table::check::check;
-use table::list::Listed;
 ghost use lib.ListN.{length};
 ghost use Rattle.table.specs.Rules.{rules};
-ghost use Rattle.table.specs.Lists.{Answers};
+ghost use Rattle.lent.specs.Lists.{Answers};
 ghost use Rattle.names.specs.Bindings.{bindingRow};
 ghost use Rattle.tables.specs.Tables.{referenceRow};
 ghost use Rattle.tables.specs.inner.Rows.{asRow};
 ghost use Rattle.scope.specs.Scope.{tableAliases, columnAliases, tableRefs};
 ghost use Rattle.scope.specs.inner.Rows.{rowsAt};
-ghost use Rattle.offers.specs.Root.{rootAt};
+ghost use Rattle.cursor_root.specs.Root.{rootAt};
 
 // One list at the offset: that of the cursor's root. The table is checked once.
 fn offer(asked: Asked, table: &[u8], source: &[u8], offset: usize, out: &mut [u8]) -> Listed

@@ -1,142 +1,32 @@
 // The WITH names at the cursor: those of its root, and those of the queries around it that it sees (document 02, §4).
-use crate::root::root_at;
+use collection::collection::Asked;
+use collection::collection::collect_scope;
+use cursor_root::root::root_at;
+use forest::stretch::stretch_of;
+use lent::list::Listed;
+use lent::verdict::NO_ROOM;
+use lent::verdict::Verdict;
 use names::bindings::BINDING_BYTES;
-use names::bindings::put_bound;
-use names::names::extract_cte;
-use scope::collection::Asked;
-use scope::collection::collect_scope;
-use scope::collection::visits;
+use seen::seen::collect_seen;
 use statement::statement::is_statement;
-use table::check::NO_ROOM;
-use table::check::Verdict;
 use table::check::check;
-use table::kinds::COLUMN_LIST;
 use table::kinds::SUBQUERY_EXPRESSION;
-use table::kinds::WITH_CLAUSE;
-use table::kinds::WITH_EXPRESSION_ITEM;
-use table::list::Listed;
-use table::record::count_of;
-use table::record::depth_at;
 use table::record::kind_at;
 use table::record::parent_at;
-use table::stretch::reach_below;
-use table::stretch::rest_from;
-use table::stretch::stretch_end;
-use table::stretch::stretch_of;
 ghost use mathlib.Core.Path.{_≡_};
 ghost use mathlib.Core.List.{[]};
 ghost use Prim.Native.Nat.{_+_, _≤_, _<_};
 ghost use lib.ListN.{length};
-ghost use Rattle.table.specs.Table.{wordLimit, count, depthAt};
-ghost use Rattle.table.specs.Forest.{inside};
+ghost use Rattle.lent.specs.Numbers.{wordLimit};
+ghost use Rattle.table.specs.Table.{count, depthAt};
 ghost use Rattle.table.specs.Rules.{mostRecords, mostDepth, rules};
-ghost use Rattle.table.specs.Lists.{farthest, Written, Answers};
+ghost use Rattle.lent.specs.Lists.{farthest, Written, Answers};
 ghost use Rattle.names.specs.Bindings.{bindingRow};
-ghost use Rattle.table.specs.Above.{standsBelow, above, Climbs};
+ghost use Rattle.forest.specs.Above.{above};
+ghost use Rattle.forest.specs.inner.Climbing.{Climbs};
 ghost use Rattle.offers.specs.Enclosing.{rootsAmong};
-ghost use Rattle.offers.specs.WithNames.{items, itemsBefore, boundBy, seenOf, seenOfAll, offeredIn, withNamesAt};
-ghost use Rattle.offers.specs.inner.Climb.{outerRoot, outerNumber, clauseBytes, rootBytes, aroundBytes, ownListBytes};
-
-// Record n stands below record x: in its stretch, behind its head.
-fn is_below(table: &[u8], x: usize, n: usize) -> bool
-    requires { ⌜ x < count (now table) ⌝ }
-    ensures { λ r. ⌜ r ≡ standsBelow (now (table .entry)) x n ⌝ }
-{
-    (x < n) & (n < stretch_end(table, x))
-}
-
-// Writes the items of a WITH clause that record n sees, also through ColumnList: those before the one that holds it.
-fn collect_items(
-    table: &[u8],
-    n: usize,
-    clause: usize,
-    source: &[u8],
-    out: &mut [u8],
-    at: usize,
-) -> usize
-    requires { ⌜ (clause < count (now table)) × (count (now table) ≤ mostRecords) × (at + clauseBytes < farthest) ⌝ }
-    ensures { λ r. ⌜ Written bindingRow (boundBy (now (source .entry)) (itemsBefore (now (table .entry)) n (items (inside (now (table .entry)) clause))))
-        (now (out .entry)) at (now (out .exit)) r × (r ≤ at + clauseBytes) ⌝ }
-{
-    let s = rest_from(table, clause);
-    let m = count_of(s);
-    let k = depth_at(s, 0) + 1;
-    let mut reach = k;
-    let mut next = at;
-    let mut i = 1;
-    while i < m {
-        let d = depth_at(s, i);
-        if d < k {
-            return next;
-        }
-        if reach < d {
-            i += 1;
-        } else {
-            let kind = kind_at(s, i);
-            if kind == WITH_EXPRESSION_ITEM {
-                if is_below(table, clause + i, n) {
-                    return next;
-                }
-                next = put_bound(
-                    extract_cte(rest_from(table, clause + i), clause + i, source),
-                    out,
-                    next,
-                );
-                reach = d;
-                i += 1;
-            } else {
-                reach = reach_below(d, kind == COLUMN_LIST);
-                i += 1;
-            }
-        }
-    }
-    next
-}
-
-// Writes the WITH names of an enclosing root that record n sees. One loop: `reach` is how deep the next record may be, so that what stands in a
-// subquery or a WITH clause is passed over.
-fn collect_seen(
-    table: &[u8],
-    n: usize,
-    root: usize,
-    source: &[u8],
-    out: &mut [u8],
-    at: usize,
-) -> usize
-    requires { ⌜ (root < count (now table)) × (count (now table) ≤ mostRecords) × (at + rootBytes < farthest) ⌝ }
-    ensures { λ r. ⌜ Written bindingRow (seenOf (now (source .entry)) (now (table .entry)) n root) (now (out .entry)) at (now (out .exit)) r
-        × (r ≤ at + rootBytes) ⌝ }
-{
-    if kind_at(table, root) == WITH_CLAUSE {
-        return collect_items(table, n, root, source, out, at);
-    }
-    let s = rest_from(table, root);
-    let m = count_of(s);
-    let k = depth_at(s, 0) + 1;
-    let mut reach = k;
-    let mut next = at;
-    let mut i = 1;
-    while i < m {
-        let d = depth_at(s, i);
-        if d < k {
-            return next;
-        }
-        if reach < d {
-            i += 1;
-        } else {
-            let kind = kind_at(s, i);
-            if kind == WITH_CLAUSE {
-                next = collect_items(table, n, root + i, source, out, next);
-                reach = d;
-                i += 1;
-            } else {
-                reach = reach_below(d, visits(kind));
-                i += 1;
-            }
-        }
-    }
-    next
-}
+ghost use Rattle.offers.specs.WithNames.{seenOfAll, offeredIn, withNamesAt};
+ghost use Rattle.offers.specs.inner.Climb.{outerRoot, outerNumber, aroundBytes, ownListBytes};
 
 // What is known of the last enclosing root after one more node above the subqueries: 1 for record 0, while there is no statement; else the
 // nearest statement's number plus two.

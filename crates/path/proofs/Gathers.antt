@@ -9,7 +9,7 @@ use native.Mathlib.Numerals.{add-one}
 use lib.Dec.{eqb}
 use Rattle.table.specs.declared.record.Rec.{Rec}
 use Rattle.table.specs.Kinds.{joinConstraint}
-use Rattle.table.specs.Descent.{along}
+use Rattle.forest.specs.Descent.{along}
 use Rattle.path.specs.declared.gathered.Gathered.{Gathered}
 use Rattle.path.specs.Path.{deepestOr, deepest, onPath, trails, isSubquery}
 use Rattle.path.specs.inner.Gathered.{settled, stepped, nothing, gathered}

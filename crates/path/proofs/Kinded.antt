@@ -10,10 +10,11 @@ use native.Mathlib.Nat.{zero-add}
 use native.Mathlib.Omega.{arith}
 use Rattle.table.specs.declared.record.Rec.{Rec}
 use Rattle.table.specs.Table.{count, kindAt, recordAt, run, from, records}
-use Rattle.table.specs.Forest.{level, kids}
-use Rattle.table.specs.Descent.{path, pathOf}
+use Rattle.forest.specs.Forest.{level, kids}
+use Rattle.forest.specs.Descent.{path, pathOf}
 use Rattle.table.specs.Ranges.{holds}
-use Rattle.table.proofs.Laws.{lt-or-le, node-or-token, level-shallow, level-deep, level-token, level-node}
+use Rattle.lent.proofs.Cases.{lt-or-le}
+use Rattle.forest.proofs.Laws.{node-or-token, level-shallow, level-deep, level-token, level-node}
 use Rattle.path.specs.Path.{pathAt}
 
 -- each has the kind of the record with its number

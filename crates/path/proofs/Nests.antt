@@ -10,9 +10,10 @@ use native.Mathlib.Nat.{zero-add}
 use native.Mathlib.Omega.{arith}
 use Rattle.table.specs.declared.record.Rec.{Rec}
 use Rattle.table.specs.Table.{count, depthAt, kindAt, recordAt, run, from, records}
-use Rattle.table.specs.Forest.{Forest, nil, token, node, level, kids, extent, stretchEnd}
-use Rattle.table.specs.Descent.{path, pathOf}
-use Rattle.table.proofs.Laws.{lt-or-le, node-or-token, level-shallow, level-deep, level-token, level-node, extent-deep, extent-stop, from-cons}
+use Rattle.forest.specs.Forest.{Forest, nil, token, node, level, kids, extent, stretchEnd}
+use Rattle.forest.specs.Descent.{path, pathOf}
+use Rattle.lent.proofs.Cases.{lt-or-le}
+use Rattle.forest.proofs.Laws.{node-or-token, level-shallow, level-deep, level-token, level-node, extent-deep, extent-stop, from-cons}
 use Rattle.table.specs.Ranges.{holds}
 use Rattle.path.specs.Path.{pathAt}
 

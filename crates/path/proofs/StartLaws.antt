@@ -12,11 +12,11 @@ use borrow.Author.Tests.{le-leb}
 use Rattle.table.specs.declared.record.Rec.{Rec}
 use Rattle.table.specs.Kinds.{isNode, lastNode}
 use Rattle.table.specs.Table.{count, kindAt, recordAt, records}
-use Rattle.table.specs.Forest.{Forest, node, token, kids, children, Child}
-use Rattle.table.specs.Descent.{path, innermost, along}
+use Rattle.forest.specs.Forest.{Forest, node, token, kids, children, Child}
+use Rattle.forest.specs.Descent.{path, innermost, along}
 use Rattle.table.specs.Ranges.{holds}
-use Rattle.table.proofs.Walks.{Walk, walk-start, walk-next}
-use Rattle.table.proofs.Descents.{onward, Down, Level}
+use Rattle.forest.proofs.Walks.{Walk, walk-start, walk-next}
+use Rattle.forest.proofs.Descents.{onward, Down, Level}
 use Rattle.path.specs.declared.gathered.Gathered.{Gathered}
 use Rattle.path.specs.declared.gathered.Next.the-variants.{Deepest}
 use Rattle.path.specs.inner.Gathered.{settled, stepped}

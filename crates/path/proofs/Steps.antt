@@ -8,8 +8,8 @@ use lib.Dec.{eqb}
 use mathlib.Core.List.{List, [], _∷_}
 use Rattle.table.specs.declared.record.Rec.{Rec}
 use Rattle.table.specs.Table.{records}
-use Rattle.table.specs.Descent.{pathOf, along}
-use Rattle.table.proofs.Descents.{Descent, answer}
+use Rattle.forest.specs.Descent.{pathOf, along}
+use Rattle.forest.proofs.Descents.{Descent, answer}
 use Rattle.table.specs.Ranges.{holds}
 use Rattle.path.specs.Path.{pathAt, trails}
 use Rattle.table.specs.Kinds.{subqueryExpression}

@@ -7,7 +7,7 @@ use mathlib.Core.Option.{Option, none, some}
 use lib.Dec.{eqb, leb}
 use Rattle.table.specs.declared.record.Rec.{Rec}
 use Rattle.table.specs.Table.{records}
-use Rattle.table.specs.Descent.{pathOf}
+use Rattle.forest.specs.Descent.{pathOf}
 use Rattle.table.specs.Ranges.{holds}
 use Rattle.table.specs.Kinds.{subqueryExpression, selectStatement, updateStatement}
 use Rattle.path.specs.declared.gathered.Next.{Next}

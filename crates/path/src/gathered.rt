@@ -10,7 +10,7 @@ use table::kinds::UPDATE_STATEMENT;
 ghost use mathlib.Core.Path.{_≡_};
 ghost use Prim.Native.Nat.{ℕ, _<_};
 ghost use Rattle.path.specs.inner.Gathered.{settled, stepped, Within};
-ghost use Rattle.table.specs.Table.{wordLimit};
+ghost use Rattle.lent.specs.Numbers.{wordLimit};
 
 // What stands next below a node of the path: nothing, or a node of this kind.
 pub enum Next {

@@ -4,8 +4,8 @@ use frame::TEXT_ROOM;
 use frame::glance;
 use libc::STDIN_FILENO;
 use libc::STDOUT_FILENO;
+use lent::text::same;
 use lines::input::number;
-use table::text::same;
 
 // How many bytes stand before a frame's input.
 const HEAD: usize = 17;

@@ -7,20 +7,21 @@ use mathlib.Core.Path.{_≡_, refl, sym, ap, _∙_}
 use mathlib.Core.Bool.{Bool, true, false, cond}
 use mathlib.Core.List.{List, [], _∷_, _++_}
 use native.Mathlib.Omega.{arith}
-use Rattle.table.specs.declared.check.Verdict.{Verdict}
-use Rattle.table.specs.declared.check.Verdict.the-variants.{Admitted, Refused}
-use Rattle.table.specs.declared.list.Listed.{Listed}
-use Rattle.table.specs.declared.list.Listed.the-variants.{Entries, Refused as Denied}
-use Rattle.table.specs.Rules.{Rule, rule, first, rules, rulesFrom, rootRules, numberRules, offsetRules}
-use Rattle.table.specs.Lists.{roomRule}
+use Rattle.lent.specs.declared.verdict.Verdict.{Verdict}
+use Rattle.lent.specs.declared.verdict.Verdict.the-variants.{Admitted, Refused}
+use Rattle.lent.specs.declared.list.Listed.{Listed}
+use Rattle.lent.specs.declared.list.Listed.the-variants.{Entries, Refused as Denied}
+use Rattle.lent.specs.Verdicts.{Rule, rule, first}
+use Rattle.table.specs.Rules.{rules, rulesFrom, rootRules, numberRules, offsetRules}
+use Rattle.lent.specs.Lists.{roomRule}
 use Rattle.brackets.specs.declared.bracket_matching.Hint.{Hint}
 use Rattle.brackets.specs.declared.bracket_matching.Hint.the-variants.{Opener, NoOpener}
 use Rattle.brackets.specs.declared.bracket_matching.HintReply.{HintReply}
 use Rattle.brackets.specs.declared.bracket_matching.HintReply.the-variants.{Hinted, Refused as Unhinted}
 use Rattle.statement.specs.declared.statement.StatementReply.{StatementReply}
 use Rattle.statement.specs.declared.statement.StatementReply.the-variants.{Statement, NoStatement, Refused as Unstated}
-use Rattle.offers.specs.declared.root.RootReply.{RootReply}
-use Rattle.offers.specs.declared.root.RootReply.the-variants.{Root, Refused as Unrooted}
+use Rattle.cursor_root.specs.declared.root.RootReply.{RootReply}
+use Rattle.cursor_root.specs.declared.root.RootReply.the-variants.{Root, Refused as Unrooted}
 use Rattle.replies.specs.Reply.{half, noRecord, packed, verdictReply, listReply, hintRecord, hintReply, statementNumber, rootNumber}
 
 -- the halves of a number come back

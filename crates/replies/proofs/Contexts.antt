@@ -4,11 +4,12 @@
 use Prim.Native.Nat.{ℕ}
 use mathlib.Core.Path.{_≡_}
 use mathlib.Core.List.{List, [], _∷_}
-use Rattle.table.specs.declared.list.Listed.{Listed}
-use Rattle.table.specs.declared.list.Listed.the-variants.{Refused as Unlisted}
-use Rattle.table.specs.Rules.{rules, first, verdict}
-use Rattle.table.specs.Lists.{listed, lent}
-use Rattle.table.proofs.Writes.{list-refused, list-admitted}
+use Rattle.lent.specs.declared.list.Listed.{Listed}
+use Rattle.lent.specs.declared.list.Listed.the-variants.{Refused as Unlisted}
+use Rattle.table.specs.Rules.{rules, verdict}
+use Rattle.lent.specs.Verdicts.{first}
+use Rattle.lent.specs.Lists.{listed, lent}
+use Rattle.lent.proofs.Writes.{list-refused, list-admitted}
 use Rattle.cursor.specs.declared.context.CursorContext.{CursorContext}
 use Rattle.cursor.specs.declared.context.ContextReply.the-variants.{Context, Refused as Denied}
 use Rattle.cursor.specs.Context.{contextRow}

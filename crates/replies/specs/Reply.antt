@@ -2,22 +2,22 @@
 -- Definitions only.
 use Prim.Native.Nat.{ℕ, _+_, _*_}
 use mathlib.Core.List.{List}
-use Rattle.table.specs.declared.check.Verdict.{Verdict}
-use Rattle.table.specs.declared.check.Verdict.the-variants.{Admitted, Refused}
-use Rattle.table.specs.declared.list.Listed.{Listed}
-use Rattle.table.specs.declared.list.Listed.the-variants.{Entries, Refused as Denied}
+use Rattle.lent.specs.declared.verdict.Verdict.{Verdict}
+use Rattle.lent.specs.declared.verdict.Verdict.the-variants.{Admitted, Refused}
+use Rattle.lent.specs.declared.list.Listed.{Listed}
+use Rattle.lent.specs.declared.list.Listed.the-variants.{Entries, Refused as Denied}
 use Rattle.brackets.specs.declared.bracket_matching.Hint.{Hint}
 use Rattle.brackets.specs.declared.bracket_matching.Hint.the-variants.{Opener, NoOpener}
 use Rattle.brackets.specs.declared.bracket_matching.HintReply.{HintReply}
 use Rattle.brackets.specs.declared.bracket_matching.HintReply.the-variants.{Hinted, Refused as Unhinted}
 use Rattle.statement.specs.declared.statement.StatementReply.{StatementReply}
 use Rattle.statement.specs.declared.statement.StatementReply.the-variants.{Statement, NoStatement, Refused as Unstated}
-use Rattle.offers.specs.declared.root.RootReply.{RootReply}
-use Rattle.offers.specs.declared.root.RootReply.the-variants.{Root, Refused as Unrooted}
-use Rattle.table.specs.Table.{wordLimit}
+use Rattle.cursor_root.specs.declared.root.RootReply.{RootReply}
+use Rattle.cursor_root.specs.declared.root.RootReply.the-variants.{Root, Refused as Unrooted}
+use Rattle.lent.specs.Numbers.{wordLimit}
 use Rattle.table.specs.Ranges.{absentNumber}
-use Rattle.table.specs.Rules.{Rule}
-use Rattle.table.specs.Lists.{listed, lent}
+use Rattle.lent.specs.Verdicts.{Rule}
+use Rattle.lent.specs.Lists.{listed, lent}
 use mathlib.Core.Path.{_≡_}
 
 -- how many values a half has

@@ -13,18 +13,20 @@ use lib.Dec.{ltb, eqb}
 use lib.ListN.{length, drop, length-append, length-map, length-reverse}
 use borrow.Author.Tests.{ltb-false, le-ltb}
 use Rattle.table.specs.declared.record.Rec.{Rec}
-use Rattle.table.specs.declared.check.Verdict.{Verdict}
-use Rattle.table.specs.declared.check.Verdict.the-variants.{Admitted, Refused}
-use Rattle.table.specs.declared.list.Listed.{Listed}
-use Rattle.table.specs.declared.list.Listed.the-variants.{Entries, Refused as Unlisted}
+use Rattle.lent.specs.declared.verdict.Verdict.{Verdict}
+use Rattle.lent.specs.declared.verdict.Verdict.the-variants.{Admitted, Refused}
+use Rattle.lent.specs.declared.list.Listed.{Listed}
+use Rattle.lent.specs.declared.list.Listed.the-variants.{Entries, Refused as Unlisted}
 use Rattle.table.specs.Table.{count, kindAt, recordAt, records, run, from}
-use Rattle.table.specs.Forest.{Forest, nil, token, node, kids}
-use Rattle.table.specs.Sense.{treeOf, inOrder, byDepth}
-use Rattle.table.specs.Rules.{Rule, rules, rootRules, first, verdict}
-use Rattle.table.specs.Lists.{numberBytes, listBytes, roomRule, listVerdict, reply, buffer, listed, lent}
-use Rattle.table.proofs.Checks.{then-admitted}
-use Rattle.table.proofs.Writes.{length-wide}
-use Rattle.table.proofs.Sense.{admitted-tidy, whole-tree}
+use Rattle.forest.specs.Forest.{Forest, nil, token, node, kids}
+use Rattle.forest.specs.Sense.{treeOf, inOrder, byDepth}
+use Rattle.lent.specs.Verdicts.{Rule, first}
+use Rattle.table.specs.Rules.{rules, rootRules, verdict}
+use Rattle.lent.specs.Numbers.{numberBytes}
+use Rattle.lent.specs.Lists.{listBytes, roomRule, listVerdict, reply, buffer, listed, lent}
+use Rattle.lent.proofs.Verdicts.{then-admitted}
+use Rattle.lent.proofs.Writes.{length-wide}
+use Rattle.forest.proofs.Sense.{admitted-tidy, whole-tree}
 use Rattle.statement.specs.declared.statement.Enclosing.{Enclosing}
 use Rattle.statement.specs.declared.statement.Enclosing.the-variants.{Outside, Record}
 use Rattle.statement.specs.declared.statement.StatementReply.the-variants.{Statement, NoStatement, Refused as Unstated}

@@ -15,10 +15,10 @@ use borrow.Author.Tests.{lt-ltb, le-ltb, ltb-true, ltb-false}
 use lib.Dec.{ltb, eqb}
 use lib.ListN.{length, getD, take, drop, set, length-append}
 use lib.Seq.{sets, length-sets, sets-eq, getD-append-add}
-use Rattle.table.specs.Table.{word}
-use Rattle.table.specs.Lists.{numberBytes, le4, rowBytes, listBytes}
-use Rattle.table.proofs.Writes.{length-row, sets-append}
-use Rattle.table.specs.Text.{bytesOf}
+use Rattle.lent.specs.Numbers.{word, numberBytes, le4}
+use Rattle.lent.specs.Lists.{rowBytes, listBytes}
+use Rattle.lent.proofs.Writes.{length-row, sets-append}
+use Rattle.lent.specs.Text.{bytesOf}
 use Rattle.lines.specs.Lines.{mostLines}
 use Rattle.report.specs.Output.{digits, decimal, field, range, fields, ranges, held, printed, printedList}
 use Rattle.report.specs.inner.Writing.{Put, words, printedWords, lineRoom, mostReferences, textRoom}

@@ -5,11 +5,12 @@ use mathlib.Core.Bool.{cond, _&&_}
 use mathlib.Core.List.{List, [], _∷_, _++_, map}
 use lib.ListN.{length, take, drop}
 use lib.Dec.{ltb, eqb}
-use Rattle.table.specs.declared.check.Verdict.{Verdict}
-use Rattle.table.specs.declared.check.Verdict.the-variants.{Admitted, Refused}
-use Rattle.table.specs.Rules.{Rule, rule, rootRules, first}
-use Rattle.table.specs.Lists.{listBytes}
-use Rattle.table.specs.Text.{bytesOf}
+use Rattle.lent.specs.declared.verdict.Verdict.{Verdict}
+use Rattle.lent.specs.declared.verdict.Verdict.the-variants.{Admitted, Refused}
+use Rattle.lent.specs.Verdicts.{Rule, rule, first}
+use Rattle.table.specs.Rules.{rootRules}
+use Rattle.lent.specs.Lists.{listBytes}
+use Rattle.lent.specs.Text.{bytesOf}
 use Rattle.statement.specs.declared.statement.Enclosing.{Enclosing}
 use Rattle.statement.specs.declared.statement.Enclosing.the-variants.{Outside, Record}
 use Rattle.tables.specs.declared.pending.TableRef.{TableRef}
@@ -22,7 +23,7 @@ use Rattle.cursor.specs.declared.context.CursorContext.{CursorContext}
 use Rattle.cursor.specs.CursorContext.{contextAt}
 use Rattle.cursor.specs.Context.{coded}
 use Rattle.lines.specs.Lines.{lf}
-use Rattle.table.specs.Table.{wordLimit}
+use Rattle.lent.specs.Numbers.{wordLimit}
 use Rattle.table.specs.Ranges.{absentNumber}
 
 -- ---- the bytes that stand for themselves: a space, and the letters that begin the lines

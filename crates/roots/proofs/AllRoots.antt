@@ -12,19 +12,22 @@ use borrow.Author.Tests.{eq-eqb}
 use lib.Dec.{eqb}
 use lib.ListN.{length, drop, length-map}
 use Rattle.table.specs.declared.record.Rec.{Rec}
-use Rattle.table.specs.declared.check.Verdict.{Verdict}
-use Rattle.table.specs.declared.check.Verdict.the-variants.{Admitted, Refused}
-use Rattle.table.specs.declared.list.Listed.the-variants.{Entries, Refused as Denied}
-use Rattle.table.specs.Table.{word, count, recordAt, records, part}
-use Rattle.table.specs.Forest.{kids, stretchEnd}
-use Rattle.table.specs.Rules.{Rule, verdict, mostRecords}
-use Rattle.table.specs.Lists.{rowBytes, listBytes, listVerdict, reply, buffer, listed, lent}
-use Rattle.table.specs.Places.{Place, nodesOf, Stands, sum}
-use Rattle.table.proofs.Laws.{lt-or-le, head-part}
-use Rattle.table.proofs.Places.{stands}
-use Rattle.table.proofs.Sense.{admitted-tidy}
+use Rattle.lent.specs.declared.verdict.Verdict.{Verdict}
+use Rattle.lent.specs.declared.verdict.Verdict.the-variants.{Admitted, Refused}
+use Rattle.lent.specs.declared.list.Listed.the-variants.{Entries, Refused as Denied}
+use Rattle.lent.specs.Numbers.{word}
+use Rattle.table.specs.Table.{count, recordAt, records, part}
+use Rattle.forest.specs.Forest.{kids, stretchEnd}
+use Rattle.lent.specs.Verdicts.{Rule}
+use Rattle.table.specs.Rules.{verdict, mostRecords}
+use Rattle.lent.specs.Lists.{rowBytes, listBytes, listVerdict, reply, buffer, listed, lent}
+use Rattle.forest.specs.Places.{Place, nodesOf, Stands, sum}
+use Rattle.lent.proofs.Cases.{lt-or-le}
+use Rattle.forest.proofs.Laws.{head-part}
+use Rattle.forest.proofs.Places.{stands}
+use Rattle.forest.proofs.Sense.{admitted-tidy}
 use Rattle.tables.specs.declared.pending.TableRef.{TableRef}
-use Rattle.scope.specs.Collection.{collection, ownTables}
+use Rattle.collection.specs.Collection.{collection, ownTables}
 use Rattle.tables.specs.Tables.{references, referenceBytes, referenceRow}
 use Rattle.scope.specs.Scope.{tableRefs}
 use Rattle.roots.specs.Reach.{isRoot, isTableName, refs, rootIs, reaches, times, Exact}

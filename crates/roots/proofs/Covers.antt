@@ -17,13 +17,13 @@ use borrow.Author.Tests.{lt-ltb, ltb-true, eq-eqb, ne-eqb}
 use lib.Dec.{ltb}
 use Rattle.table.specs.declared.record.Rec.{Rec}
 use Rattle.table.specs.Table.{count, depthAt, kindAt, recordAt, run, from}
-use Rattle.table.specs.Forest.{Forest, nil, token, node, level, kids, extent, stretchEnd, inside}
-use Rattle.table.proofs.Laws.{lt-or-le, eq-or-not, node-or-token, level-shallow, level-deep, level-token, level-node, extent-deep, extent-stop, from-cons}
-use Rattle.table.proofs.Texts.{both}
+use Rattle.forest.specs.Forest.{Forest, nil, token, node, level, kids, extent, stretchEnd, inside}
+use Rattle.lent.proofs.Cases.{lt-or-le, eq-or-not, both}
+use Rattle.forest.proofs.Laws.{node-or-token, level-shallow, level-deep, level-token, level-node, extent-deep, extent-stop, from-cons}
 use Rattle.table.proofs.Fields.{kind-of}
-use Rattle.table.proofs.Reaches.{reaches-yes, reaches-no}
+use Rattle.forest.proofs.Reaches.{reaches-yes, reaches-no}
 use Rattle.path.specs.Path.{isSubquery}
-use Rattle.table.specs.Above.{standsBelow}
+use Rattle.forest.specs.Above.{standsBelow}
 use Rattle.roots.specs.Nearest.{atOrBelow, NearestRoot, OneRoot}
 
 module _ (t : List ℕ) where

@@ -10,11 +10,11 @@ use mathlib.Core.Option.{Option, none, some}
 use native.Mathlib.Omega.{arith}
 use Rattle.table.specs.declared.record.Rec.{Rec}
 use Rattle.table.specs.Table.{count, depthAt}
-use Rattle.table.specs.Forest.{stretchEnd}
-use Rattle.table.proofs.Laws.{end-within}
+use Rattle.forest.specs.Forest.{stretchEnd}
+use Rattle.forest.proofs.Laws.{end-within}
 use Rattle.path.specs.Path.{pathAt, deepestOr, isSubquery}
 use Rattle.path.proofs.Nests.{Nested, path-nested}
-use Rattle.offers.specs.Root.{rootOf, rootAt}
+use Rattle.cursor_root.specs.Root.{rootOf, rootAt}
 use Rattle.roots.specs.Nearest.{QueryOnPath, DeepestQuery}
 use Rattle.roots.proofs.Covers.{end-behind, at-below, at-below-then}
 

@@ -10,7 +10,7 @@ use lib.Dec.{eqb}
 use Rattle.table.specs.declared.record.Rec.{Rec}
 use Rattle.table.specs.Kinds.{withClause, selectClause, fromClause, withExpressionItem, columnList, expressionList, columnAlias, joinClause}
 use Rattle.table.specs.Table.{count, kindAt}
-use Rattle.table.specs.Forest.{Forest, stretchEnd, inside}
+use Rattle.forest.specs.Forest.{Forest, stretchEnd, inside}
 use Rattle.names.specs.declared.names.NameBinding.{NameBinding}
 use Rattle.names.specs.declared.names.Bound.{Bound}
 use Rattle.names.specs.declared.names.Bound.the-variants.{Unnamed, Named}
@@ -20,8 +20,8 @@ use Rattle.tables.specs.declared.pending.TableRef.{TableRef}
 use Rattle.tables.specs.declared.pending.Pending.{Pending}
 use Rattle.tables.specs.declared.pending.Pending.the-variants.{Nothing, Held}
 use Rattle.tables.specs.Tables.{fresh, aliased, handOn, listAlias, tableReading, references, aliases}
-use Rattle.scope.specs.Collection.{ownWith, ownColumns, ownTables}
-use Rattle.scope.specs.Scope.{collectionAt, withNames, tableAliases, columnAliases, tableRefs}
+use Rattle.collection.specs.Collection.{ownWith, ownColumns, ownTables, collectionAt}
+use Rattle.scope.specs.Scope.{withNames, tableAliases, columnAliases, tableRefs}
 use Rattle.roots.specs.Nearest.{EntryOf, aliasAt, columnAt, referenceAt, itemAt, TableAliasOf, ColumnAliasOf, TableRefOf, WithNameOf}
 use Rattle.roots.proofs.Nearest.{in-none, Met, clause-of, in-bound, in-reading}
 use Rattle.roots.proofs.Covers.{Cover, inside-cover, apart-below, nearest-in}

@@ -15,8 +15,8 @@ use lib.Dec.{eqb}
 use Rattle.table.specs.declared.record.Rec.{Rec}
 use Rattle.table.specs.Kinds.{withClause, subqueryExpression, tableIdentifier, tableExpression, tableAlias, joinClause}
 use Rattle.table.specs.Table.{count, depthAt, kindAt, recordAt, from, records, part}
-use Rattle.table.specs.Forest.{Forest, nil, token, node, kids, level, stretchEnd, inside}
-use Rattle.table.proofs.Laws.{from-cons, kids-part, head-part}
+use Rattle.forest.specs.Forest.{Forest, nil, token, node, kids, level, stretchEnd, inside}
+use Rattle.forest.proofs.Laws.{from-cons, kids-part, head-part}
 use Rattle.names.specs.declared.names.NameBinding.{NameBinding}
 use Rattle.names.specs.declared.names.Bound.{Bound}
 use Rattle.names.specs.declared.names.Bound.the-variants.{Unnamed, Named}
@@ -25,8 +25,7 @@ use Rattle.names.specs.Bindings.{entry, boundIn}
 use Rattle.tables.specs.declared.pending.Pending.{Pending}
 use Rattle.tables.specs.declared.pending.Pending.the-variants.{Nothing}
 use Rattle.tables.specs.Tables.{fresh, aliased, Listing, handOn, listAlias, tableReading}
-use Rattle.scope.specs.Collection.{nodeGives, collected, collection}
-use Rattle.scope.specs.Scope.{collectionAt}
+use Rattle.collection.specs.Collection.{nodeGives, collected, collection, collectionAt}
 use Rattle.path.specs.Path.{isSubquery}
 use Rattle.roots.specs.Nearest.{NearestRoot}
 use Rattle.roots.proofs.Counts.{decide}

@@ -11,9 +11,9 @@ use borrow.Author.Tests.{eqb-true, ltb-true}
 use lib.Dec.{eqb, ltb}
 use Rattle.table.specs.Kinds.{withClause, withExpressionItem, columnList}
 use Rattle.table.specs.Table.{count, depthAt, kindAt}
-use Rattle.table.specs.Forest.{Forest, nil, token, node, stretchEnd, inside}
-use Rattle.table.specs.Sense.{Tidy}
-use Rattle.table.proofs.Reaches.{reaches-yes}
+use Rattle.forest.specs.Forest.{Forest, nil, token, node, stretchEnd, inside}
+use Rattle.forest.specs.Sense.{Tidy}
+use Rattle.forest.proofs.Reaches.{reaches-yes}
 use Rattle.names.specs.declared.names.NameBinding.{NameBinding}
 use Rattle.names.specs.declared.names.Bound.the-variants.{Named}
 use Rattle.names.specs.Names.{withItem}
@@ -21,9 +21,10 @@ use Rattle.names.specs.Bindings.{entry}
 use Rattle.scope.specs.Scope.{withNames}
 use Rattle.path.specs.Path.{isSubquery}
 use Rattle.statement.specs.Statement.{isStatement}
-use Rattle.table.specs.Above.{standsBelow, aboveAmong, above}
+use Rattle.forest.specs.Above.{standsBelow, aboveAmong, above}
 use Rattle.offers.specs.Enclosing.{queries, someQuery, beyond, statementAmong, lastRoot, rootsAmong, enclosingRoots}
-use Rattle.offers.specs.WithNames.{Item, items, itemsBefore, boundBy, ownSeen, seenOf, seenOfAll, offeredIn}
+use Rattle.seen.specs.Seen.{Item, items, itemsBefore, boundBy, ownSeen, seenOf}
+use Rattle.offers.specs.WithNames.{seenOfAll, offeredIn}
 use Rattle.roots.specs.Nearest.{SeenFrom, WithNamesFrom}
 use Rattle.roots.proofs.Covers.{stands-below, Cover, inside-cover, Apart, apart-here, apart-in, nearest-in}
 use Rattle.roots.proofs.Nearest.{in-none, in-entry, not-subquery, clause-of}

@@ -6,12 +6,12 @@ use mathlib.Core.Bool.{true, cond}
 use mathlib.Core.List.{List, [], _∷_, List·Memᴰ}
 use lib.Dec.{eqb}
 use lib.ListN.{length, drop}
-use Rattle.table.specs.declared.list.Listed.{Listed}
-use Rattle.table.specs.declared.list.Listed.the-variants.{Entries}
-use Rattle.table.specs.Table.{word}
+use Rattle.lent.specs.declared.list.Listed.{Listed}
+use Rattle.lent.specs.declared.list.Listed.the-variants.{Entries}
+use Rattle.lent.specs.Numbers.{word}
 use Rattle.table.specs.Rules.{rootRules}
-use Rattle.table.specs.Lists.{listed, lent}
-use Rattle.table.specs.Places.{Place, nodesOf, sum}
+use Rattle.lent.specs.Lists.{listed, lent}
+use Rattle.forest.specs.Places.{Place, nodesOf, sum}
 use Rattle.tables.specs.Tables.{referenceBytes, referenceRow}
 use Rattle.scope.specs.Scope.{tableRefs}
 use Rattle.roots.specs.Reach.{isRoot, isTableName, rootIs, reaches}

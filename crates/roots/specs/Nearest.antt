@@ -10,18 +10,19 @@ use lib.Dec.{eqb}
 use Rattle.table.specs.declared.record.Rec.{Rec}
 use Rattle.table.specs.Kinds.{withClause, withExpressionItem, tableIdentifier, tableAlias, columnAlias}
 use Rattle.table.specs.Table.{kindAt, recordAt}
-use Rattle.table.specs.Forest.{Forest, inside}
+use Rattle.forest.specs.Forest.{Forest, inside}
 use Rattle.names.specs.declared.names.NameBinding.{NameBinding}
 use Rattle.names.specs.declared.names.Bound.the-variants.{Named}
 use Rattle.names.specs.Names.{withItem, aliasIn}
 use Rattle.tables.specs.declared.pending.TableRef.{TableRef}
 use Rattle.tables.specs.Tables.{references, aliases}
-use Rattle.scope.specs.Collection.{ownWith, ownColumns, ownTables}
+use Rattle.collection.specs.Collection.{ownWith, ownColumns, ownTables}
 use Rattle.scope.specs.Scope.{withNames}
 use Rattle.path.specs.Path.{pathAt, isSubquery}
-use Rattle.table.specs.Above.{standsBelow}
+use Rattle.forest.specs.Above.{standsBelow}
 use Rattle.offers.specs.Enclosing.{enclosingRoots}
-use Rattle.offers.specs.WithNames.{Item, items, offeredIn}
+use Rattle.seen.specs.Seen.{Item, items}
+use Rattle.offers.specs.WithNames.{offeredIn}
 
 -- ---- the nearest root
 

@@ -8,11 +8,11 @@ use lib.Dec.{eqb}
 use lib.ListN.{length}
 use Rattle.table.specs.declared.record.Rec.{Rec}
 use Rattle.table.specs.Kinds.{withClause, fromClause, joinClause, subqueryExpression, tableIdentifier, tableExpression}
-use Rattle.table.specs.Forest.{Forest}
-use Rattle.table.specs.Places.{Place, sum}
+use Rattle.forest.specs.Forest.{Forest}
+use Rattle.forest.specs.Places.{Place, sum}
 use Rattle.tables.specs.declared.pending.TableRef.{TableRef}
 use Rattle.names.specs.Names.{isPart, direct}
-use Rattle.scope.specs.Collection.{collection, ownTables}
+use Rattle.collection.specs.Collection.{collection, ownTables}
 use Rattle.tables.specs.Tables.{references}
 
 -- ---- roots and names

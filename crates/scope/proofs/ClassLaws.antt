@@ -10,12 +10,13 @@ use borrow.Author.Tests.{le-leb, lt-leb, eq-eqb, ne-eqb}
 use lib.Dec.{leb}
 use lib.ListN.{drop}
 use Rattle.table.specs.Table.{recordBytes, count, kindAt, startAt, endAt, recordAt}
-use Rattle.table.specs.Forest.{Forest, nil, token, node}
-use Rattle.table.specs.Text.{text}
-use Rattle.table.specs.Lists.{numberBytes, put, Written}
-use Rattle.table.proofs.Laws.{lt-or-le}
-use Rattle.table.proofs.Visits.{rest-kind}
-use Rattle.table.proofs.Writes.{written-none, written-one}
+use Rattle.forest.specs.Forest.{Forest, nil, token, node}
+use Rattle.lent.specs.Text.{text}
+use Rattle.lent.specs.Numbers.{numberBytes}
+use Rattle.lent.specs.Lists.{put, Written}
+use Rattle.lent.proofs.Cases.{lt-or-le}
+use Rattle.forest.proofs.Visits.{rest-kind}
+use Rattle.lent.proofs.Writes.{written-none, written-one}
 use Rattle.scope.specs.declared.semantic_tokens.TokenClass.the-variants.{Keyword, Function, StringLiteral, Number, Comment, Operator, Variable, TypeName, Parameter, Property, Unclassed}
 use Rattle.scope.specs.declared.semantic_tokens.TokenClass.{TokenClass}
 use Rattle.scope.specs.Classes.{between, judged, bareword, byParent, classOf, numberOf, entryOf, classRow, classes}

@@ -7,30 +7,33 @@ use mathlib.Core.List.{List, [], _++_, map, map-append}
 use native.Mathlib.Omega.{arith}
 use lib.Dec.{eqb}
 use lib.ListN.{length, length-map}
-use Rattle.table.specs.declared.check.Verdict.{Verdict}
-use Rattle.table.specs.declared.check.Verdict.the-variants.{Admitted, Refused}
-use Rattle.table.specs.declared.list.Listed.{Listed}
-use Rattle.table.specs.declared.list.Listed.the-variants.{Entries, Refused as Denied}
+use Rattle.lent.specs.declared.verdict.Verdict.{Verdict}
+use Rattle.lent.specs.declared.verdict.Verdict.the-variants.{Admitted, Refused}
+use Rattle.lent.specs.declared.list.Listed.{Listed}
+use Rattle.lent.specs.declared.list.Listed.the-variants.{Entries, Refused as Denied}
 use Rattle.table.specs.Kinds.{withClause, fromClause, joinClause, subqueryExpression, tableIdentifier, tableExpression, tableAlias}
 use Rattle.table.specs.Table.{count, recordAt, records, part}
-use Rattle.table.specs.Forest.{Forest, nil, token, node, kids, stretchEnd}
-use Rattle.table.specs.Rules.{mostRecords, Rule, first, rootRules, rootVerdict}
-use Rattle.table.specs.Lists.{numberBytes, listBytes, listed, lent, Written}
+use Rattle.forest.specs.Forest.{Forest, nil, token, node, kids, stretchEnd}
+use Rattle.table.specs.Rules.{mostRecords, rootRules, rootVerdict}
+use Rattle.lent.specs.Verdicts.{Rule, first}
+use Rattle.lent.specs.Numbers.{numberBytes}
+use Rattle.lent.specs.Lists.{listBytes, listed, lent, Written}
 use Rattle.table.proofs.Checks.{root-known}
-use Rattle.table.proofs.Writes.{length-wide, bytes-map, listed-map, lent-map, sized-written, sized-denied}
+use Rattle.lent.proofs.Writes.{length-wide, bytes-map, listed-map, lent-map, sized-written, sized-denied}
 use Rattle.names.specs.declared.names.Bound.{Bound}
 use Rattle.names.specs.declared.names.Bound.the-variants.{Unnamed, Named}
 use Rattle.tables.specs.declared.pending.Pending.{Pending}
 use Rattle.tables.specs.declared.pending.Pending.the-variants.{Nothing, Held}
-use Rattle.scope.specs.declared.collection.Asked.{Asked}
-use Rattle.scope.specs.declared.collection.Asked.the-variants.{WithNames, TableAliases, ColumnAliases, TableRefs}
+use Rattle.collection.specs.declared.collection.Asked.{Asked}
+use Rattle.collection.specs.declared.collection.Asked.the-variants.{WithNames, TableAliases, ColumnAliases, TableRefs}
 use Rattle.names.specs.Names.{isPart, direct, aliasIn}
-use Rattle.scope.specs.Collection.{nodeGives, collected, collection, ownWith, ownColumns, ownTables, collectionOf}
+use Rattle.collection.specs.Collection.{nodeGives, collected, collection, ownWith, ownColumns, ownTables, collectionOf}
 use Rattle.tables.specs.Tables.{fresh, aliased, Listing, handOn, listAlias, tableReading, references, aliases, referenceRow}
 use Rattle.names.specs.Bindings.{bindingRow}
 use Rattle.scope.specs.Scope.{withNames, tableAliases, columnAliases, tableRefs}
 use Rattle.tables.specs.inner.Rows.{asRow, rowsOf}
-use Rattle.scope.specs.inner.Rows.{ownRows, rowsAt, width}
+use Rattle.collection.specs.inner.Rows.{ownRows}
+use Rattle.scope.specs.inner.Rows.{rowsAt, width}
 
 -- ---- entry by entry: a collection of mapped entries is the mapped collection, and so is a table reading
 

@@ -6,13 +6,13 @@ use mathlib.Core.List.{List, [], _∷_, _++_}
 use lib.Dec.{leb, eqb}
 use Rattle.table.specs.Kinds.{tableIdentifier, tableAlias, columnAlias, dataType, nestedDataType, functionCall, tableFunction, identifier, qualifiedName, queryParameterExpression, databaseDefinition, tableDefinition, dictionaryDefinition, expression, comment, bareWord, quotedIdentifier, number, stringToken, hereDoc, plus, arrow}
 use Rattle.table.specs.Table.{kindAt, records}
-use Rattle.table.specs.Forest.{Forest, nil, token, node, kids}
-use Rattle.table.specs.Text.{text}
+use Rattle.forest.specs.Forest.{Forest, nil, token, node, kids}
+use Rattle.lent.specs.Text.{text}
 use Rattle.scope.specs.declared.semantic_tokens.TokenClass.{TokenClass}
 use Rattle.scope.specs.declared.semantic_tokens.TokenClass.the-variants.{Keyword, Function, StringLiteral, Number, Comment, Operator, Variable, TypeName, Parameter, Property, Unclassed}
 use Rattle.scope.specs.declared.semantic_tokens.ClassedToken.{ClassedToken}
 use Rattle.keywords.specs.Keywords.{isKeyword}
-use Rattle.table.specs.Lists.{numberBytes}
+use Rattle.lent.specs.Numbers.{numberBytes}
 
 -- a kind from a to b
 unfoldable pub between : ℕ → ℕ → ℕ → Bool

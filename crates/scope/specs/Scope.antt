@@ -3,16 +3,10 @@
 -- Definitions only.
 use Prim.Native.Nat.{ℕ}
 use mathlib.Core.List.{List}
-use Rattle.table.specs.Table.{part}
-use Rattle.table.specs.Forest.{Forest, stretchEnd}
 use Rattle.names.specs.declared.names.NameBinding.{NameBinding}
 use Rattle.tables.specs.declared.pending.TableRef.{TableRef}
-use Rattle.scope.specs.Collection.{ownWith, ownColumns, ownTables, collectionOf}
+use Rattle.collection.specs.Collection.{collectionAt, ownWith, ownColumns, ownTables}
 use Rattle.tables.specs.Tables.{references, aliases}
-
--- the collection of record i: of its stretch of records
-abbrev pub collectionAt : {E : Type 0} → (ℕ → Forest → List E) → List ℕ → ℕ → List E
-collectionAt own t i = collectionOf own i (part t i (stretchEnd t i))
 
 -- each of the four lists is its own question
 abbrev pub withNames : List ℕ → List ℕ → ℕ → List NameBinding

@@ -1,4 +1,3 @@
-// Classes and scope: token classes, the collection, and the four lists of a root.
-pub mod collection;
+// Classes and scope: token classes, and the four lists of a root.
 pub mod scope;
 pub mod semantic_tokens;

@@ -1,18 +1,18 @@
 // The four lists of a root: its WITH names, table aliases, column aliases and table references.
-use crate::collection::Asked;
-use crate::collection::collect_scope;
+use collection::collection::Asked;
+use collection::collection::collect_scope;
+use forest::stretch::stretch_of;
+use lent::list::Listed;
+use lent::verdict::NO_ROOM;
+use lent::verdict::Verdict;
 use names::bindings::BINDING_BYTES;
-use table::check::NO_ROOM;
-use table::check::Verdict;
 use table::check::check_root;
-use table::list::Listed;
-use table::stretch::stretch_of;
 use tables::pending::REFERENCE_BYTES;
 ghost use mathlib.Core.Path.{_≡_};
 ghost use Prim.Native.Nat.{_/_, _≤_, _<_};
 ghost use lib.ListN.{length};
 ghost use Rattle.table.specs.Rules.{rootRules, mostRecords};
-ghost use Rattle.table.specs.Lists.{Answers};
+ghost use Rattle.lent.specs.Lists.{Answers};
 ghost use Rattle.tables.specs.Tables.{referenceRow};
 ghost use Rattle.names.specs.Bindings.{bindingRow};
 ghost use Rattle.scope.specs.Scope.{withNames, tableAliases, columnAliases, tableRefs};

@@ -11,16 +11,16 @@ use native.Mathlib.Omega.{arith}
 use borrow.Author.Tests.{le-leb, lt-leb}
 use lib.ListN.{drop}
 use Rattle.table.specs.declared.record.Rec.{Rec}
-use Rattle.table.specs.declared.check.Verdict.{Verdict}
-use Rattle.table.specs.declared.check.Verdict.the-variants.{Admitted, Refused}
+use Rattle.lent.specs.declared.verdict.Verdict.{Verdict}
+use Rattle.lent.specs.declared.verdict.Verdict.the-variants.{Admitted, Refused}
 use Rattle.table.specs.Kinds.{isNode, lastNode}
 use Rattle.table.specs.Table.{recordBytes, count, kindAt, startAt, endAt, recordAt, from, records}
-use Rattle.table.specs.Forest.{Forest, nil, token, node, kids, children, Child}
+use Rattle.forest.specs.Forest.{Forest, nil, token, node, kids, children, Child}
 use Rattle.table.specs.Rules.{verdict}
-use Rattle.table.specs.Places.{Place, places, nodesOf}
-use Rattle.table.proofs.Laws.{node-or-token, records-tail}
-use Rattle.table.proofs.Sense.{admitted-tidy}
-use Rattle.table.proofs.Walks.{Walk, walk-none, walk-start, walk-end, walk-here, walk-at-node, walk-on}
+use Rattle.forest.specs.Places.{Place, places, nodesOf}
+use Rattle.forest.proofs.Laws.{node-or-token, records-tail}
+use Rattle.forest.proofs.Sense.{admitted-tidy}
+use Rattle.forest.proofs.Walks.{Walk, walk-none, walk-start, walk-end, walk-here, walk-at-node, walk-on}
 use Rattle.statement.specs.declared.statement.Enclosing.{Enclosing}
 use Rattle.statement.specs.declared.statement.Enclosing.the-variants.{Outside, Record}
 use Rattle.statement.specs.declared.statement.StatementReply.{StatementReply}

@@ -6,12 +6,12 @@ use mathlib.Core.Bool.{Bool, true, cond, _&&_}
 use mathlib.Core.List.{List, [], _∷_, _++_, List·Memᴰ}
 use lib.Dec.{leb}
 use Rattle.table.specs.declared.record.Rec.{Rec}
-use Rattle.table.specs.declared.check.Verdict.{Verdict}
-use Rattle.table.specs.declared.check.Verdict.the-variants.{Admitted, Refused}
+use Rattle.lent.specs.declared.verdict.Verdict.{Verdict}
+use Rattle.lent.specs.declared.verdict.Verdict.the-variants.{Admitted, Refused}
 use Rattle.table.specs.Kinds.{selectStatement, describeStatement}
-use Rattle.table.specs.Forest.{Forest, nil, token, node}
-use Rattle.table.specs.Sense.{treeOf}
-use Rattle.table.specs.Places.{Place, places}
+use Rattle.forest.specs.Forest.{Forest, nil, token, node}
+use Rattle.forest.specs.Sense.{treeOf}
+use Rattle.forest.specs.Places.{Place, places}
 use Rattle.statement.specs.declared.statement.Enclosing.{Enclosing}
 use Rattle.statement.specs.declared.statement.Enclosing.the-variants.{Outside, Record}
 use Rattle.statement.specs.declared.statement.StatementReply.{StatementReply}

@@ -1,5 +1,7 @@
 // The statement that encloses an offset.
-use table::check::Verdict;
+use forest::stretch::child_from;
+use forest::stretch::rest_from;
+use lent::verdict::Verdict;
 use table::check::check;
 use table::kinds::DESCRIBE_STATEMENT;
 use table::kinds::SELECT_STATEMENT;
@@ -9,13 +11,12 @@ use table::record::count_of;
 use table::record::end_at;
 use table::record::kind_at;
 use table::record::start_at;
-use table::stretch::child_from;
-use table::stretch::rest_from;
 ghost use mathlib.Core.Path.{_≡_};
 ghost use Prim.Native.Nat.{_+_, _<_};
 ghost use lib.ListN.{length};
-ghost use Rattle.table.specs.Table.{count, records, wordLimit};
-ghost use Rattle.table.specs.Forest.{kids};
+ghost use Rattle.table.specs.Table.{count, records};
+ghost use Rattle.lent.specs.Numbers.{wordLimit};
+ghost use Rattle.forest.specs.Forest.{kids};
 ghost use Rattle.table.specs.Rules.{verdict};
 ghost use Rattle.table.specs.Ranges.{spans};
 ghost use Rattle.statement.specs.Statement.{isStatement, itself, orElse, firstFind, enclosingAt, told, statementReply};

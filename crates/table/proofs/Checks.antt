@@ -16,15 +16,17 @@ use borrow.Author.Tests.{ltb-true, ltb-false, lt-ltb, le-ltb, eq-eqb, ne-eqb, eq
 use lib.Dec.{eqb, ltb}
 use lib.ListN.{length, getD, set, replicate, length-set}
 use lib.Seq.{getD-set-same, getD-set-other}
+use Rattle.lent.proofs.Verdicts.{then-refused, then-admitted, unbroken, last-unbroken}
 use Rattle.table.specs.declared.record.Rec.{Rec}
 use Rattle.table.specs.declared.check.Known.{Known}
-use Rattle.table.specs.declared.check.Verdict.{Verdict}
-use Rattle.table.specs.declared.check.Verdict.the-variants.{Admitted, Refused}
+use Rattle.lent.specs.declared.verdict.Verdict.{Verdict}
+use Rattle.lent.specs.declared.verdict.Verdict.the-variants.{Admitted, Refused}
 use Rattle.table.specs.Kinds.{isNode, isToken}
 use Rattle.table.specs.Table.{recordBytes, count, kindAt, depthAt, parentAt, recordAt}
-use Rattle.table.specs.Rules.{mostRecords, mostDepth, badLength, tooLong, unlisted, misplaced, tooDeep, nearest, parentOf, wrongParent, badSpan, lastEnd, noRoot, Rule, rule, rulesAt, rulesFrom, rules, first, verdict, rootVerdict}
+use Rattle.table.specs.Rules.{mostRecords, mostDepth, badLength, tooLong, unlisted, misplaced, tooDeep, nearest, parentOf, wrongParent, badSpan, lastEnd, noRoot, rulesAt, rulesFrom, rules, verdict, rootVerdict}
+use Rattle.lent.specs.Verdicts.{Rule, rule, first}
 use Rattle.table.specs.inner.Step.{depths, deepestNext, knownAt, after, strange, outOfPlace, offSource, misfitOf}
-use Rattle.table.proofs.Laws.{lt-or-le, eq-or-not}
+use Rattle.lent.proofs.Cases.{lt-or-le, eq-or-not}
 
 -- ---- what the check finds at record i is what the rules say of it
 
@@ -216,24 +218,6 @@ some t e =
     whole true p = refl
     whole false p = sym p
 
--- ---- rules in two parts: the second part speaks only where the first admits
-
-pub then-refused : (rs more : List Rule) {k d : ℕ} → Refused k d ≡ first rs → Refused k d ≡ first (rs ++ more)
-then-refused [] more e = absurd (let z : _≡_ {A = ℕ} 0 1 = cc in omega arith)
-then-refused (r ∷ rs) more {k} {d} e = go (r .broken) (then-refused rs more) e
-  where
-    go : (b : Bool) → (Refused k d ≡ first rs → Refused k d ≡ first (rs ++ more)) → Refused k d ≡ cond b (Refused (r .number) (r .detail)) (first rs) → Refused k d ≡ cond b (Refused (r .number) (r .detail)) (first (rs ++ more))
-    go true ih p = p
-    go false ih p = ih p
-
-pub then-admitted : (rs more : List Rule) → Admitted ≡ first rs → first (rs ++ more) ≡ first more
-then-admitted [] more e = refl
-then-admitted (r ∷ rs) more e = go (r .broken) (then-admitted rs more) e
-  where
-    go : (b : Bool) → (Admitted ≡ first rs → first (rs ++ more) ≡ first more) → Admitted ≡ cond b (Refused (r .number) (r .detail)) (first rs) → cond b (Refused (r .number) (r .detail)) (first (rs ++ more)) ≡ first more
-    go true ih p = absurd (let z : _≡_ {A = ℕ} 0 1 = cc in omega arith)
-    go false ih p = ih p
-
 -- ---- what the check says, of the rules
 module _ (t : List ℕ) (n m : ℕ) {v : Verdict} (e : v ≡ verdict t n m) where
   pub rules-refused : {k d : ℕ} → v ≡ Refused k d → Refused k d ≡ first (rules t n m)
@@ -257,22 +241,6 @@ module _ (t : List ℕ) (n i : ℕ) where
   pub root-admitted : Admitted ≡ verdict t n 0 → noRoot t i ≡ false → Admitted ≡ rootVerdict t n i
   unfolding verdict rootVerdict
   root-admitted e h = sym (then-admitted (rules t n 0) (rule 8 0 (noRoot t i) ∷ []) e ∙ rw h)
-
--- what is admitted breaks no rule: not the first, and not the last
-unbroken : (r : Rule) (rs : List Rule) → Admitted ≡ first (r ∷ rs) → r .broken ≡ false
-unbroken r rs e = go (r .broken) e
-  where
-    go : (b : Bool) → Admitted ≡ cond b (Refused (r .number) (r .detail)) (first rs) → b ≡ false
-    go true p = absurd (let z : _≡_ {A = ℕ} 0 1 = cc in omega arith)
-    go false p = refl
-
-last-unbroken : (rs : List Rule) (r : Rule) → Admitted ≡ first (rs ++ r ∷ []) → r .broken ≡ false
-last-unbroken [] r e = unbroken r [] e
-last-unbroken (x ∷ rs) r e = go (x .broken) (last-unbroken rs r) e
-  where
-    go : (b : Bool) → (Admitted ≡ first (rs ++ r ∷ []) → r .broken ≡ false) → Admitted ≡ cond b (Refused (x .number) (x .detail)) (first (rs ++ r ∷ [])) → r .broken ≡ false
-    go true ih p = absurd (let z : _≡_ {A = ℕ} 0 1 = cc in omega arith)
-    go false ih p = ih p
 
 -- where a question's root is admitted, there are at most 4,096 records, and the root is one of them
 pub root-known : (t : List ℕ) (n i : ℕ) → Admitted ≡ rootVerdict t n i → (count t ≤ mostRecords) × (i < count t)

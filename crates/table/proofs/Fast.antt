@@ -13,15 +13,16 @@ use borrow.Author.Tests.{lt-ltb, le-ltb, le-leb, lt-leb, eq-eqb, ne-eqb, ltb-tru
 use lib.Dec.{eqb, ltb, leb}
 use lib.ListN.{length, getD, set, replicate, length-set}
 use lib.Seq.{getD-set-same, getD-set-other}
-use Rattle.table.specs.declared.check.Verdict.the-variants.{Admitted}
+use Rattle.lent.specs.declared.verdict.Verdict.the-variants.{Admitted}
 use Rattle.table.specs.Kinds.{isNode, isToken, lastNode, otherToken, arrow}
-use Rattle.table.specs.Table.{wordLimit, count, kindAt, depthAt, startAt, endAt, parentAt, recordAt}
-use Rattle.table.specs.Rules.{mostDepth, unlisted, misplaced, tooDeep, nearest, parentOf, wrongParent, badSpan, lastEnd, rulesFrom, first}
+use Rattle.lent.specs.Numbers.{wordLimit}
+use Rattle.table.specs.Table.{count, kindAt, depthAt, startAt, endAt, parentAt, recordAt}
+use Rattle.table.specs.Rules.{mostDepth, unlisted, misplaced, tooDeep, nearest, parentOf, wrongParent, badSpan, lastEnd, rulesFrom}
+use Rattle.lent.specs.Verdicts.{first}
 use Rattle.table.specs.inner.Step.{depths, below, deepestNext, knownAt, outOfPlace}
 use Rattle.table.specs.inner.Fast.{firstFits, tokenFits, deepestUnder}
-use Rattle.table.proofs.Laws.{lt-or-le, eq-or-not}
+use Rattle.lent.proofs.Cases.{lt-or-le, eq-or-not, both}
 use Rattle.table.proofs.Checks.{place-at}
-use Rattle.table.proofs.Texts.{both}
 
 -- what is false says nothing
 pub never : {A : Type 0} → false ≡ true → A

@@ -5,8 +5,9 @@ use mathlib.Core.Bool.{Bool, false, cond, not, _&&_, _||_}
 use mathlib.Core.List.{List, [], _∷_, _++_}
 use lib.ListN.{length}
 use lib.Dec.{ltb, leb, eqb}
-use Rattle.table.specs.declared.check.Verdict.{Verdict}
-use Rattle.table.specs.declared.check.Verdict.the-variants.{Admitted, Refused}
+use Rattle.lent.specs.declared.verdict.Verdict.{Verdict}
+use Rattle.lent.specs.declared.verdict.Verdict.the-variants.{Admitted, Refused}
+use Rattle.lent.specs.Verdicts.{Rule, rule, first}
 use Rattle.table.specs.Kinds.{isNode, isToken}
 use Rattle.table.specs.Table.{recordBytes, count, kindAt, depthAt, startAt, endAt, parentAt}
 
@@ -94,14 +95,6 @@ noSuchRecord t i = not (ltb i (count t))
 
 -- ---- the rules: each condition with its number and its detail
 
-pub record Rule : Type 0 where
-  pub number : ℕ
-  pub detail : ℕ
-  pub broken : Bool
-
-abbrev pub rule : ℕ → ℕ → Bool → Rule
-rule k d b = record { number = k; detail = d; broken = b }
-
 -- of record i: 3, 4, 5, 12, 6
 abbrev pub rulesAt : List ℕ → ℕ → ℕ → List Rule
 rulesAt t n i =
@@ -129,9 +122,6 @@ abbrev pub numberRules : List ℕ → ℕ → ℕ → List Rule
 numberRules t n i = rules t n 0 ++ rule 8 0 (noSuchRecord t i) ∷ []
 
 -- ---- the verdict: the first rule that is broken
-abbrev pub first : List Rule → Verdict
-first [] = Admitted
-first (r ∷ rs) = cond (r .broken) (Refused (r .number) (r .detail)) (first rs)
 
 -- on a table, a source of n bytes and a message of m bytes
 unfoldable pub verdict : List ℕ → ℕ → ℕ → Verdict

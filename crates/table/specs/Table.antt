@@ -5,19 +5,12 @@ use mathlib.Core.Bool.{Bool}
 use mathlib.Core.List.{List, [], _∷_}
 use lib.ListN.{length, getD, take, drop}
 use lib.Dec.{ltb}
+use Rattle.lent.specs.Numbers.{word}
 use Rattle.table.specs.declared.record.Rec.{Rec}
 
 -- how many bytes a record has
 abbrev pub recordBytes : ℕ
 recordBytes = 20
-
--- a number of four bytes is below this
-abbrev pub wordLimit : ℕ
-wordLimit = 4294967296
-
--- the little-endian number in the four bytes of t from `at` on
-unfoldable pub word : List ℕ → ℕ → ℕ
-word t at = getD t at 0 + getD t (at + 1) 0 * 256 + getD t (at + 2) 0 * 65536 + getD t (at + 3) 0 * 16777216
 
 -- how many records t has: what is left of a record is none
 abbrev pub count : List ℕ → ℕ

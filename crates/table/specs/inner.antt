@@ -1,4 +1,2 @@
-pub mod Ordered
 pub mod Fast
-pub mod Scan
 pub mod Step

@@ -4,23 +4,26 @@ use crate::kinds::is_node;
 use crate::kinds::is_token;
 use crate::record::RECORD_BYTES;
 use crate::record::Rec;
-use crate::record::WORD_LIMIT;
 use crate::record::depth_at;
 use crate::record::end_at;
 use crate::record::kind_at;
 use crate::record::parent_at;
 use crate::record::record_at;
 use crate::record::start_at;
+use lent::number::WORD_LIMIT;
+use lent::verdict::Verdict;
 ghost use mathlib.Core.Path.{_≡_};
 ghost use mathlib.Core.Bool.{true, not};
 ghost use Prim.Native.Nat.{_+_, _≤_, _<_};
 ghost use lib.ListN.{length};
 ghost use lib.Dec.{eqb};
-ghost use Rattle.table.specs.Table.{count, parentAt, wordLimit};
-ghost use Rattle.table.specs.Rules.{mostRecords, badLength, tooLong, badOffsets, noRoot, first, rulesFrom, verdict, rootVerdict, offsetVerdict};
+ghost use Rattle.table.specs.Table.{count, parentAt};
+ghost use Rattle.lent.specs.Numbers.{wordLimit};
+ghost use Rattle.table.specs.Rules.{mostRecords, badLength, tooLong, badOffsets, noRoot, rulesFrom, verdict, rootVerdict, offsetVerdict};
+ghost use Rattle.lent.specs.Verdicts.{first};
 ghost use Rattle.table.specs.inner.Step.{after, strange, outOfPlace, offSource, misfitOf, verdictOn};
 ghost use Rattle.table.specs.inner.Fast.{firstFits, tokenFits, deepestUnder};
-ghost use Rattle.table.specs.declared.check.Verdict.the-variants.{Admitted};
+ghost use Rattle.lent.specs.declared.verdict.Verdict.the-variants.{Admitted};
 
 // The most records, depth, bytes of a source and bytes of a message.
 pub const MOST_RECORDS: usize = 4096;
@@ -53,16 +56,7 @@ const BAD_OFFSETS: u32 = 10;
 
 const WRONG_PARENT: u32 = 12;
 
-pub const NO_ROOM: u32 = 7;
-
 pub const NO_ROOT: u32 = 8;
-
-// What the check says of a table.
-pub enum Verdict {
-    Admitted,
-    // the refusal's number and its detail
-    Refused(u32, u32),
-}
 
 // How many depths a record after one may have: 0 to one below the deepest.
 const DEPTHS: usize = MOST_DEPTH + 2;

@@ -1,8 +1,5 @@
-// The tree table: records, stretches, the check, and lists in a lent buffer. No other crate knows how wide a record is.
+// The tree table: records and the check. No other crate but those that step over records knows how wide one is.
 pub mod check;
 pub mod kinds;
-pub mod list;
 pub mod range;
 pub mod record;
-pub mod stretch;
-pub mod text;

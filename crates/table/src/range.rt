@@ -1,10 +1,10 @@
 // A range of the source, and when a span holds an offset.
 use crate::kinds::is_node;
 use crate::record::Rec;
-use crate::record::WORD_LIMIT;
 use crate::record::end_at;
 use crate::record::kind_at;
 use crate::record::start_at;
+use lent::number::WORD_LIMIT;
 ghost use mathlib.Core.Path.{_≡_};
 ghost use mathlib.Core.Bool.{_&&_};
 ghost use Prim.Native.Nat.{_<_};

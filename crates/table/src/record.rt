@@ -1,14 +1,13 @@
 // A record is twenty bytes, five 32-bit little-endian numbers: kind, depth, start, end, parent.
+use lent::number::word_at;
 ghost use mathlib.Core.Path.{_≡_};
 ghost use Prim.Native.Nat.{_+_, _≤_, _<_};
 ghost use lib.ListN.{length};
-ghost use Rattle.table.specs.Table.{word, count, kindAt, depthAt, startAt, endAt, parentAt, recordAt, wordLimit};
+ghost use Rattle.lent.specs.Numbers.{word, wordLimit};
+ghost use Rattle.table.specs.Table.{count, kindAt, depthAt, startAt, endAt, parentAt, recordAt};
 
 // How many bytes a record has.
 pub const RECORD_BYTES: usize = 20;
-
-// A number of four bytes is below this.
-pub const WORD_LIMIT: usize = 4294967296;
 
 // A record with its number. The number goes with it however deep the part is that it was read from.
 pub struct Rec {
@@ -17,25 +16,6 @@ pub struct Rec {
     pub depth: usize,
     pub start: usize,
     pub end: usize,
-}
-
-// A byte as a number.
-fn wide(x: u8) -> usize
-    ensures { λ r. ⌜ (r ≡ x) × (r < 256) ⌝ }
-{
-    x as usize
-}
-
-// The little-endian number in the four bytes from `at` on.
-pub fn word_at(t: &[u8], at: usize) -> usize
-    requires { ⌜ at + 4 ≤ length (now t) ⌝ }
-    ensures { λ r. ⌜ (r ≡ word (now (t .entry)) at) × (r < wordLimit) ⌝ }
-{
-    let a = wide(t[at]);
-    let b = wide(t[at + 1]);
-    let c = wide(t[at + 2]);
-    let d = wide(t[at + 3]);
-    a + b * 256 + c * 65536 + d * 16777216
 }
 
 // How many records t has.

@@ -9,7 +9,7 @@ use borrow.Author.Tests.{le-leb, lt-leb}
 use lib.Dec.{leb}
 use Rattle.table.specs.declared.record.Rec.{Rec}
 use Rattle.table.specs.Kinds.{lastNode}
-use Rattle.table.specs.Forest.{Forest, nil, token, node}
+use Rattle.forest.specs.Forest.{Forest, nil, token, node}
 use Rattle.table.specs.declared.range.Range.{Range}
 use Rattle.tables.specs.declared.pending.Pending.{Pending}
 use Rattle.tables.specs.declared.pending.Pending.the-variants.{Nothing, Held}

@@ -9,8 +9,8 @@ use lib.Dec.{eqb}
 use Rattle.table.specs.declared.record.Rec.{Rec}
 use Rattle.table.specs.Kinds.{joinClause, tableIdentifier, tableExpression, tableAlias}
 use Rattle.table.specs.Table.{count, kindAt, recordAt, records, part}
-use Rattle.table.specs.Forest.{Forest, nil, token, node, kids, stretchEnd}
-use Rattle.table.proofs.Laws.{head-part}
+use Rattle.forest.specs.Forest.{Forest, nil, token, node, kids, stretchEnd}
+use Rattle.forest.proofs.Laws.{head-part}
 use Rattle.names.specs.declared.names.Bound.{Bound}
 use Rattle.names.specs.declared.names.Bound.the-variants.{Unnamed, Named}
 use Rattle.tables.specs.declared.pending.TableRef.{TableRef}

@@ -7,7 +7,7 @@ use mathlib.Core.List.{List, [], _∷_, _++_}
 use lib.Dec.{eqb}
 use Rattle.table.specs.declared.record.Rec.{Rec}
 use Rattle.table.specs.Kinds.{joinClause, tableIdentifier, tableExpression, tableAlias}
-use Rattle.table.specs.Forest.{Forest, nil, token, node}
+use Rattle.forest.specs.Forest.{Forest, nil, token, node}
 use Rattle.names.specs.declared.names.NameBinding.{NameBinding}
 use Rattle.tables.specs.declared.pending.TableRef.{TableRef}
 use Rattle.names.specs.declared.names.Bound.{Bound}
@@ -16,7 +16,7 @@ use Rattle.tables.specs.declared.pending.Pending.{Pending}
 use Rattle.tables.specs.declared.pending.Pending.the-variants.{Nothing, Held}
 use Rattle.table.specs.Ranges.{absent, span}
 use Rattle.names.specs.Names.{isPart, direct, aliasIn}
-use Rattle.table.specs.Lists.{numberBytes}
+use Rattle.lent.specs.Numbers.{numberBytes}
 
 -- ---- the table reading
 

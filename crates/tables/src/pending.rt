@@ -1,17 +1,17 @@
 // The pending reference of a table reading.
+use forest::stretch::child_from;
+use lent::number::NUMBER_BYTES;
 use names::names::Bound;
 use names::names::is_part;
-use table::list::NUMBER_BYTES;
 use table::range::Range;
 use table::range::no_range;
 use table::range::span_of;
 use table::record::count_of;
 use table::record::record_at;
-use table::stretch::child_from;
 ghost use mathlib.Core.Path.{_≡_};
 ghost use Prim.Native.Nat.{_+_, _≤_, _<_};
 ghost use Rattle.table.specs.Table.{count, records};
-ghost use Rattle.table.specs.Forest.{kids};
+ghost use Rattle.forest.specs.Forest.{kids};
 ghost use Rattle.table.specs.Rules.{mostRecords};
 ghost use Rattle.names.specs.Names.{isPart, direct};
 ghost use Rattle.tables.specs.Tables.{fresh, aliased};

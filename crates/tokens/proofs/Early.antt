@@ -14,11 +14,12 @@ use borrow.Author.Tests.{lt-leb, le-leb, lt-ltb, le-ltb, leb-false}
 use Rattle.table.specs.declared.record.Rec.{Rec}
 use Rattle.table.specs.Kinds.{isNode, lastNode}
 use Rattle.table.specs.Table.{count, kindAt, startAt, recordAt, run, from, records}
-use Rattle.table.specs.Forest.{kids}
-use Rattle.table.specs.inner.Scan.{ofTokens}
-use Rattle.table.specs.inner.Ordered.{Ordered}
-use Rattle.table.proofs.Laws.{lt-or-le, node-or-token}
-use Rattle.table.proofs.Scans.{sweep}
+use Rattle.forest.specs.Forest.{kids}
+use Rattle.forest.specs.inner.Scan.{ofTokens}
+use Rattle.forest.specs.inner.Ordered.{Ordered}
+use Rattle.lent.proofs.Cases.{lt-or-le}
+use Rattle.forest.proofs.Laws.{node-or-token}
+use Rattle.forest.proofs.Scans.{sweep}
 use Rattle.tokens.specs.declared.sweep.Sought.{Sought}
 use Rattle.tokens.specs.declared.sweep.Sought.the-variants.{LastToken, ArgumentIndex}
 use Rattle.tokens.specs.inner.Turns.{Findings, countsFor, swept}

@@ -12,9 +12,9 @@ use lib.ListN.{drop}
 use Rattle.table.specs.declared.record.Rec.{Rec}
 use Rattle.table.specs.Kinds.{lastNode, bareWord, openingRound, identifier}
 use Rattle.table.specs.Table.{recordBytes, count, kindAt, recordAt, from, records}
-use Rattle.table.specs.Forest.{Forest, nil, token, node, kids, children, Child}
-use Rattle.table.proofs.Laws.{node-or-token, records-tail}
-use Rattle.table.proofs.Walks.{walk-here, walk-at-node, walk-on}
+use Rattle.forest.specs.Forest.{Forest, nil, token, node, kids, children, Child}
+use Rattle.forest.proofs.Laws.{node-or-token, records-tail}
+use Rattle.forest.proofs.Walks.{walk-here, walk-at-node, walk-on}
 use Rattle.table.specs.declared.range.Range.{Range}
 use Rattle.tokens.specs.declared.last_token.Name.{Name}
 use Rattle.tokens.specs.declared.last_token.Name.the-variants.{Nameless, Named}
@@ -23,7 +23,7 @@ use Rattle.tokens.specs.declared.function.Naming.the-variants.{Open, Is}
 use Rattle.tokens.specs.LastToken.{named}
 use Rattle.tokens.specs.Function.{bareWordIn, orName, functionName}
 use Rattle.tokens.specs.inner.Turns.{nameAt, naming, namingOf, namingAt}
-use Rattle.table.proofs.Walking.{Walks}
+use Rattle.forest.proofs.Walking.{Walks}
 
 -- ---- the first direct BareWord
 

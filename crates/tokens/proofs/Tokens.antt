@@ -11,12 +11,12 @@ use lib.ListN.{length, getD}
 use Rattle.table.specs.declared.record.Rec.{Rec}
 use Rattle.table.specs.Kinds.{isNode, lastNode}
 use Rattle.table.specs.Table.{count, kindAt, depthAt, startAt, endAt, recordAt, records}
-use Rattle.table.specs.Forest.{Forest, kids}
-use Rattle.table.specs.inner.Scan.{Reading, ofTokens}
-use Rattle.table.specs.Descent.{along}
-use Rattle.table.specs.Text.{same}
-use Rattle.table.proofs.Scans.{tokens-none, tokens-start}
-use Rattle.table.proofs.Walking.{Sweeps, sweeps-token, sweeps-node}
+use Rattle.forest.specs.Forest.{Forest, kids}
+use Rattle.forest.specs.inner.Scan.{Reading, ofTokens}
+use Rattle.forest.specs.Descent.{along}
+use Rattle.lent.specs.Text.{same}
+use Rattle.forest.proofs.Scans.{tokens-none, tokens-start}
+use Rattle.forest.proofs.Walking.{Sweeps, sweeps-token, sweeps-node}
 use Rattle.tokens.specs.declared.last_token.Name.{Name}
 use Rattle.tokens.specs.declared.last_token.Name.the-variants.{Nameless}
 use Rattle.tokens.specs.declared.last_token.LastTwo.{LastTwo}

@@ -6,9 +6,9 @@ use mathlib.Core.List.{List, [], _∷_}
 use lib.Dec.{ltb, eqb}
 use Rattle.table.specs.declared.record.Rec.{Rec}
 use Rattle.table.specs.Kinds.{functionCall, aggregateFunction, identifier, bareWord, comma, openingRound}
-use Rattle.table.specs.Forest.{Forest, nil, token, node}
-use Rattle.table.specs.Tokens.{reached}
-use Rattle.table.specs.Descent.{along}
+use Rattle.forest.specs.Forest.{Forest, nil, token, node}
+use Rattle.forest.specs.Tokens.{reached}
+use Rattle.forest.specs.Descent.{along}
 use Rattle.tokens.specs.declared.last_token.Name.{Name}
 use Rattle.tokens.specs.declared.last_token.Name.the-variants.{Nameless, Named}
 use Rattle.tokens.specs.declared.function.Arguments.{Arguments}

@@ -6,9 +6,9 @@ use mathlib.Core.List.{List, [], _∷_}
 use lib.Dec.{leb, ltb, eqb}
 use Rattle.table.specs.declared.record.Rec.{Rec}
 use Rattle.table.specs.Kinds.{whitespace, comment}
-use Rattle.table.specs.Forest.{Forest}
-use Rattle.table.specs.Tokens.{reached}
-use Rattle.table.specs.Text.{text, bytesOf, same, says}
+use Rattle.forest.specs.Forest.{Forest}
+use Rattle.forest.specs.Tokens.{reached}
+use Rattle.lent.specs.Text.{text, bytesOf, same, says}
 use Rattle.table.specs.declared.range.Range.{Range}
 use Rattle.tokens.specs.declared.last_token.Name.{Name}
 use Rattle.tokens.specs.declared.last_token.Name.the-variants.{Nameless, Named}

@@ -2,6 +2,8 @@
 use crate::last_token::Name;
 use crate::sweep::Sought;
 use crate::sweep::sweep;
+use forest::stretch::child_from;
+use forest::stretch::rest_from;
 use table::kinds::BARE_WORD;
 use table::kinds::IDENTIFIER;
 use table::kinds::OPENING_ROUND;
@@ -10,13 +12,11 @@ use table::record::count_of;
 use table::record::end_at;
 use table::record::kind_at;
 use table::record::start_at;
-use table::stretch::child_from;
-use table::stretch::rest_from;
 ghost use mathlib.Core.Path.{_≡_};
 ghost use Prim.Native.Nat.{ℕ, _<_};
 ghost use Rattle.table.specs.Table.{count, records};
-ghost use Rattle.table.specs.Forest.{kids};
-ghost use Rattle.table.specs.inner.Ordered.{Ordered};
+ghost use Rattle.forest.specs.Forest.{kids};
+ghost use Rattle.forest.specs.inner.Ordered.{Ordered};
 ghost use Rattle.tokens.specs.Function.{bareWordIn, functionName, arguments};
 ghost use Rattle.tokens.specs.inner.Turns.{nameAt, namingAt};
 

@@ -2,16 +2,16 @@
 use crate::function::token_at;
 use crate::sweep::Sought;
 use crate::sweep::sweep;
+use lent::text::says;
+use lent::text::text_of;
 use table::range::Range;
-use table::text::says;
-use table::text::text_of;
 ghost use mathlib.Core.Path.{_≡_};
 ghost use mathlib.Core.List.{[], _∷_};
 ghost use Prim.Native.Nat.{ℕ, _-_, _≤_};
 ghost use Rattle.table.specs.Table.{count, records};
-ghost use Rattle.table.specs.Forest.{kids};
-ghost use Rattle.table.specs.inner.Ordered.{Ordered};
-ghost use Rattle.table.specs.Text.{same};
+ghost use Rattle.forest.specs.Forest.{kids};
+ghost use Rattle.forest.specs.inner.Ordered.{Ordered};
+ghost use Rattle.lent.specs.Text.{same};
 ghost use Rattle.tokens.specs.LastToken.{lastTwo, isText, isWord, dotted, isJoinWord};
 ghost use Rattle.tokens.specs.inner.Turns.{tokenOf};
 

@@ -1,5 +1,6 @@
 // The reading of a stretch's tokens in document order: one loop, for whatever is sought of them.
 use crate::function::Arguments;
+use forest::stretch::reach_below;
 use table::kinds::AGGREGATE_FUNCTION;
 use table::kinds::COMMA;
 use table::kinds::COMMENT;
@@ -12,13 +13,12 @@ use table::record::depth_at;
 use table::record::end_at;
 use table::record::kind_at;
 use table::record::start_at;
-use table::stretch::reach_below;
 ghost use mathlib.Core.Path.{_≡_};
 ghost use mathlib.Core.Bool.{cond};
 ghost use Prim.Native.Nat.{ℕ, _+_, _-_, _≤_, _<_};
 ghost use Rattle.table.specs.Table.{count, records};
-ghost use Rattle.table.specs.Forest.{kids};
-ghost use Rattle.table.specs.inner.Ordered.{Ordered};
+ghost use Rattle.forest.specs.Forest.{kids};
+ghost use Rattle.forest.specs.inner.Ordered.{Ordered};
 ghost use Rattle.tokens.specs.Function.{argued};
 ghost use Rattle.tokens.specs.inner.Turns.{countsFor, entersFor, movedTo, meant, swept};
 

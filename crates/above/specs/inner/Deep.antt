@@ -5,7 +5,7 @@ use mathlib.Core.Path.{_≡_}
 use mathlib.Core.List.{List}
 use lib.ListN.{length}
 use Rattle.table.specs.Table.{depthAt}
-use Rattle.table.specs.Above.{above}
+use Rattle.forest.specs.Above.{above}
 
 -- as many records stand above record n as it is deep
 abbrev pub Deep : List ℕ → ℕ → Type 0

@@ -8,9 +8,9 @@ use lib.Dec.{eqb}
 use lib.ListN.{getD}
 use Rattle.table.specs.declared.record.Rec.{Rec}
 use Rattle.table.specs.Kinds.{openingRound, closingRound}
-use Rattle.table.specs.Forest.{Forest, nil, token, node}
+use Rattle.forest.specs.Forest.{Forest, nil, token, node}
 use Rattle.brackets.specs.Brackets.{isOpener, isCloser, holding}
-use Rattle.table.specs.Text.{bytesOf}
+use Rattle.lent.specs.Text.{bytesOf}
 use Rattle.brackets.specs.declared.bracket_matching.Hint.{Hint}
 use Rattle.brackets.specs.declared.bracket_matching.Hint.the-variants.{Opener, NoOpener}
 

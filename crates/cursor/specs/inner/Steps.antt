@@ -5,7 +5,7 @@ use mathlib.Core.Bool.{Bool, cond, _&&_}
 use mathlib.Core.List.{List, [], _∷_}
 use lib.Dec.{leb, eqb}
 use Rattle.table.specs.Table.{kindAt, startAt, endAt}
-use Rattle.table.specs.Forest.{Forest, inside}
+use Rattle.forest.specs.Forest.{Forest, inside}
 use Rattle.table.specs.Kinds.{isNode}
 use Rattle.path.specs.declared.gathered.Next.the-variants.{Deepest}
 use Rattle.path.specs.declared.gathered.Gathered.{Gathered}

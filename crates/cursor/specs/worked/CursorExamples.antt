@@ -4,11 +4,12 @@ use Prim.Native.Nat.{ℕ}
 use mathlib.Core.Path.{_≡_, refl}
 use mathlib.Core.List.{List, [], _∷_, _++_}
 use Rattle.table.specs.Kinds.{otherNode, file, queryList, error, selectStatement, insertStatement, createStatement, alterStatement, selectClause, fromClause, joinClause, whereClause, orderByClause, settingsClause, settingList, engineClause, formatClause, insertFormatClause, joinConstraint, tableIdentifier, tableAlias, columnDefinition, columnTypeDefinition, columnCodec, functionCall, aggregateFunction, identifier, columnReference, otherToken, whitespace, bareWord, comma, openingRound, closingRound}
-use Rattle.table.specs.Table.{word, recordAt, run, from}
-use Rattle.table.specs.Forest.{level, kids}
-use Rattle.table.specs.Tokens.{only, tokensOf}
-use Rattle.table.specs.Descent.{path, pathOf, along}
-use Rattle.table.specs.Text.{text, bytesOf, upper, says}
+use Rattle.lent.specs.Numbers.{word}
+use Rattle.table.specs.Table.{recordAt, run, from}
+use Rattle.forest.specs.Forest.{level, kids}
+use Rattle.forest.specs.Tokens.{only, tokensOf}
+use Rattle.forest.specs.Descent.{path, pathOf, along}
+use Rattle.lent.specs.Text.{text, bytesOf, upper, says}
 use Rattle.table.specs.worked.Worked.{rec}
 use Rattle.table.specs.declared.range.Range.{Range}
 use Rattle.path.specs.Path.{deepestOr, onPath, nextOf, isDeepest, deepestOver}

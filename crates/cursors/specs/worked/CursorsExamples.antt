@@ -2,8 +2,7 @@
 use mathlib.Core.Path.{_≡_, refl}
 use mathlib.Core.List.{List, [], _∷_, _++_}
 use Prim.Native.Nat.{ℕ}
-use Rattle.table.specs.Table.{word}
-use Rattle.table.specs.Lists.{le4}
+use Rattle.lent.specs.Numbers.{word, le4}
 use Rattle.cursors.specs.Cursors.{offsetsFrom, offsetsOf}
 
 -- none; three, of which one comes twice; what is left of a fourth is none

@@ -7,18 +7,19 @@ use mathlib.Core.Path.{_≡_, refl}
 use mathlib.Core.Bool.{cond}
 use mathlib.Core.List.{List, [], _∷_, _++_}
 use lib.Dec.{ltb}
-use Rattle.table.specs.Table.{word, recordAt, run, from}
-use Rattle.table.specs.Forest.{level, kids, extent, stretchEnd}
+use Rattle.lent.specs.Numbers.{word}
+use Rattle.table.specs.Table.{recordAt, run, from}
+use Rattle.forest.specs.Forest.{level, kids, extent, stretchEnd}
 use Rattle.table.specs.Rules.{misplaced, nearest, lastEnd, badSpan, rulesFrom}
-use Rattle.table.specs.Lists.{rowBytes, listBytes}
-use Rattle.table.specs.Text.{text, bytesOf, upper, says}
-use Rattle.table.specs.Tokens.{only, tokensOf}
-use Rattle.table.specs.Descent.{path, pathOf, along}
+use Rattle.lent.specs.Lists.{rowBytes, listBytes}
+use Rattle.lent.specs.Text.{text, bytesOf, upper, says}
+use Rattle.forest.specs.Tokens.{only, tokensOf}
+use Rattle.forest.specs.Descent.{path, pathOf, along}
 use Rattle.keywords.specs.Keywords.{isKeyword, keywords}
 use Rattle.scope.specs.Classes.{between, judged, bareword, byParent, classOf, numberOf, entryOf, classes}
 use Rattle.brackets.specs.Brackets.{fits, closed, stackStep, left}
 use Rattle.names.specs.Names.{isAs, isPart, isName, direct, unquoted, nameOf, binding, firstNamed, lastNamed}
-use Rattle.scope.specs.Collection.{nodeGives, collected, collection, ownWith, ownColumns, ownTables}
+use Rattle.collection.specs.Collection.{nodeGives, collected, collection, ownWith, ownColumns, ownTables}
 use Rattle.names.specs.Bindings.{entry, boundIn}
 use Rattle.tables.specs.Tables.{fresh, aliased, handOn, listAlias, tableReading}
 use Rattle.statement.specs.Statement.{orElse, firstFind, enclosingAt}

@@ -6,10 +6,10 @@ use mathlib.Core.Bool.{cond}
 use mathlib.Core.List.{List, [], _∷_}
 use lib.ListN.{length, take}
 use lib.Dec.{ltb, eqb}
-use Rattle.table.specs.declared.check.Verdict.the-variants.{Admitted, Refused}
+use Rattle.lent.specs.declared.verdict.Verdict.the-variants.{Admitted, Refused}
 use Rattle.table.specs.Table.{recordBytes}
-use Rattle.table.specs.Lists.{listBytes}
-use Rattle.table.specs.Rules.{first}
+use Rattle.lent.specs.Lists.{listBytes}
+use Rattle.lent.specs.Verdicts.{first}
 use Rattle.lines.specs.declared.input.Records.{Records}
 use Rattle.lines.specs.declared.input.Records.the-variants.{Faulty, Read}
 use Rattle.lines.specs.declared.input.Frame.{Frame}

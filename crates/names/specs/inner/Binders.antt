@@ -6,7 +6,7 @@ use mathlib.Core.List.{List}
 use lib.Dec.{eqb}
 use Rattle.table.specs.declared.record.Rec.{Rec}
 use Rattle.table.specs.Kinds.{withExpressionItem, columnList, expressionList, columnAlias}
-use Rattle.table.specs.Forest.{Forest}
+use Rattle.forest.specs.Forest.{Forest}
 use Rattle.names.specs.declared.names.NameBinding.{NameBinding}
 use Rattle.names.specs.declared.names.Bound.{Bound}
 use Rattle.names.specs.declared.bindings.Binder.{Binder}

@@ -7,8 +7,8 @@ use mathlib.Core.List.{List, [], _∷_}
 use lib.Dec.{ltb, eqb}
 use Rattle.table.specs.Table.{kindAt}
 use Rattle.table.specs.Rules.{mostRecords, mostDepth}
-use Rattle.names.specs.Bindings.{bindingBytes}
-use Rattle.scope.specs.inner.Rows.{ownBytes}
+use Rattle.collection.specs.inner.Rows.{ownBytes}
+use Rattle.seen.specs.inner.Room.{rootBytes}
 use Rattle.path.specs.Path.{isSubquery}
 use Rattle.statement.specs.Statement.{isStatement}
 
@@ -33,13 +33,6 @@ rootsFrom t outer (x ∷ xs) =
     cond (isSubquery (kindAt t x)) up on
 
 -- ---- how many bytes there can be, so that no place wraps
-
--- of a clause's items, and of a root's clauses
-abbrev pub clauseBytes : ℕ
-clauseBytes = bindingBytes * mostRecords
-
-abbrev pub rootBytes : ℕ
-rootBytes = clauseBytes * mostRecords
 
 -- of the roots around a root: one for each depth above it, and one more
 abbrev pub aroundBytes : ℕ

@@ -5,7 +5,7 @@ use mathlib.Core.Bool.{Bool, false, cond, _||_}
 use mathlib.Core.List.{List, [], _∷_}
 use lib.Dec.{eqb}
 use Rattle.table.specs.declared.record.Rec.{Rec}
-use Rattle.table.specs.Descent.{along}
+use Rattle.forest.specs.Descent.{along}
 use Rattle.table.specs.Kinds.{otherNode, joinConstraint, subqueryExpression}
 use Rattle.path.specs.declared.gathered.Next.{Next}
 use Rattle.path.specs.declared.gathered.Next.the-variants.{Deepest, Above}

@@ -5,10 +5,9 @@ use mathlib.Core.Path.{_≡_}
 use mathlib.Core.List.{List, [], _∷_, _++_}
 use lib.ListN.{length}
 use lib.Seq.{sets}
-use Rattle.table.specs.Table.{word}
-use Rattle.table.specs.Lists.{numberBytes}
-use Rattle.table.specs.declared.list.Listed.{Listed}
-use Rattle.table.specs.declared.list.Listed.the-variants.{Entries, Refused as Unlisted}
+use Rattle.lent.specs.Numbers.{word, numberBytes}
+use Rattle.lent.specs.declared.list.Listed.{Listed}
+use Rattle.lent.specs.declared.list.Listed.the-variants.{Entries, Refused as Unlisted}
 use Rattle.tables.specs.Tables.{referenceBytes}
 use Rattle.lines.specs.Lines.{mostLines}
 use Rattle.report.specs.Output.{printed, referenceRoom}

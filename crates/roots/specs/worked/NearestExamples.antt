@@ -7,16 +7,17 @@ use mathlib.Core.Bool.{true, false}
 use native.Mathlib.Omega.{arith}
 use mathlib.Core.List.{List, [], _∷_, _++_, List·Memᴰ·head, List·Memᴰ·tail}
 use Rattle.table.specs.declared.record.Rec.{Rec}
-use Rattle.table.specs.declared.check.Verdict.the-variants.{Admitted}
+use Rattle.lent.specs.declared.verdict.Verdict.the-variants.{Admitted}
 use Rattle.table.specs.Kinds.{file, subqueryExpression}
-use Rattle.table.specs.Table.{word, recordAt, run, from}
-use Rattle.table.specs.Forest.{level, kids, extent, stretchEnd}
-use Rattle.table.specs.Descent.{path, pathOf}
+use Rattle.lent.specs.Numbers.{word}
+use Rattle.table.specs.Table.{recordAt, run, from}
+use Rattle.forest.specs.Forest.{level, kids, extent, stretchEnd}
+use Rattle.forest.specs.Descent.{path, pathOf}
 use Rattle.table.specs.Rules.{rulesFrom, misplaced, nearest, lastEnd, badSpan, verdict}
 use Rattle.table.specs.worked.Worked.{rec}
 use Rattle.statement.specs.Statement.{orElse, firstFind, enclosingAt}
 use Rattle.path.specs.Path.{pathAt, deepestOr}
-use Rattle.offers.specs.Root.{statementOr, rootOf, rootAt}
+use Rattle.cursor_root.specs.Root.{statementOr, rootOf, rootAt}
 use Rattle.roots.specs.Nearest.{DeepestQuery}
 
 -- a node of kind k with a subquery below it

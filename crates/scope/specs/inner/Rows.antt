@@ -1,24 +1,13 @@
--- How one walk serves the four lists: its entries are rows of numbers, and which list is asked for says what is a node's own part.
+-- The rows of a list of a root, by which list is asked for, and how wide they are.
 -- Definitions only. A reader of the questions needs none of them.
-use Prim.Native.Nat.{ℕ, _*_}
-use mathlib.Core.List.{List, map}
-use Rattle.table.specs.Forest.{Forest}
-use Rattle.table.specs.Rules.{mostRecords}
-use Rattle.scope.specs.declared.collection.Asked.{Asked}
-use Rattle.scope.specs.declared.collection.Asked.the-variants.{WithNames, TableAliases, ColumnAliases, TableRefs}
-use Rattle.tables.specs.declared.tables.Reads.the-variants.{Aliases, References}
-use Rattle.scope.specs.Collection.{ownWith, ownColumns, ownTables}
+use Prim.Native.Nat.{ℕ}
+use mathlib.Core.List.{List}
+use Rattle.collection.specs.declared.collection.Asked.{Asked}
+use Rattle.collection.specs.declared.collection.Asked.the-variants.{WithNames, TableAliases, ColumnAliases, TableRefs}
+use Rattle.collection.specs.Collection.{collectionAt}
+use Rattle.collection.specs.inner.Rows.{ownRows}
 use Rattle.tables.specs.Tables.{referenceBytes}
-use Rattle.names.specs.Bindings.{bindingBytes, bindingRow}
-use Rattle.scope.specs.Scope.{collectionAt}
-use Rattle.tables.specs.inner.Rows.{rowsOf, readBytes}
-
--- a node's own part
-unfoldable pub ownRows : Asked → List ℕ → ℕ → Forest → List (List ℕ)
-ownRows WithNames src k below = map bindingRow (ownWith src k below)
-ownRows TableAliases src k below = ownTables (rowsOf Aliases) src k below
-ownRows ColumnAliases src k below = map bindingRow (ownColumns src k below)
-ownRows TableRefs src k below = ownTables (rowsOf References) src k below
+use Rattle.names.specs.Bindings.{bindingBytes}
 
 -- the list of record i
 abbrev pub rowsAt : Asked → List ℕ → List ℕ → ℕ → List (List ℕ)
@@ -30,7 +19,3 @@ width WithNames = bindingBytes
 width TableAliases = bindingBytes
 width ColumnAliases = bindingBytes
 width TableRefs = referenceBytes
-
--- how many bytes a node's own part takes at most
-abbrev pub ownBytes : ℕ
-ownBytes = readBytes * mostRecords

@@ -3,9 +3,10 @@ use Prim.Native.Nat.{ℕ}
 use mathlib.Core.Path.{_≡_, refl}
 use mathlib.Core.Bool.{true, false}
 use mathlib.Core.List.{List, [], _∷_, _++_}
-use Rattle.table.specs.Table.{word, recordAt, run, from}
-use Rattle.table.specs.Forest.{level, kids}
-use Rattle.table.specs.Text.{bytesOf, upper, text}
+use Rattle.lent.specs.Numbers.{word}
+use Rattle.table.specs.Table.{recordAt, run, from}
+use Rattle.forest.specs.Forest.{level, kids}
+use Rattle.lent.specs.Text.{bytesOf, upper, text}
 use Rattle.table.specs.worked.Worked.{rec}
 use Rattle.scope.specs.declared.semantic_tokens.TokenClass.the-variants.{Keyword, Function, StringLiteral, Number, Comment, Operator, Variable, TypeName, Parameter, Property, Unclassed}
 use Rattle.scope.specs.declared.semantic_tokens.ClassedToken.{ClassedToken}

@@ -3,12 +3,13 @@ use mathlib.Core.Path.{_≡_, refl}
 use mathlib.Core.List.{List, [], _∷_, _++_, map}
 use Prim.Native.Nat.{ℕ}
 use Rattle.table.specs.Kinds.{file, selectStatement, withClause, selectClause, fromClause, joinClause, withExpressionItem, subqueryExpression, columnList, expressionList, tableIdentifier, tableExpression, tableAlias, columnAlias, bareWord, quotedIdentifier}
-use Rattle.table.specs.Table.{word, recordAt, run, from}
-use Rattle.table.specs.Forest.{level, kids, extent, stretchEnd}
+use Rattle.lent.specs.Numbers.{word}
+use Rattle.table.specs.Table.{recordAt, run, from}
+use Rattle.forest.specs.Forest.{level, kids, extent, stretchEnd}
 use Rattle.table.specs.worked.Worked.{rec}
-use Rattle.table.specs.Text.{bytesOf, upper, text, says}
+use Rattle.lent.specs.Text.{bytesOf, upper, text, says}
 use Rattle.names.specs.Names.{isAs, isPart, isName, direct, unquoted, nameOf, binding, firstNamed, lastNamed}
-use Rattle.scope.specs.Collection.{nodeGives, collected, collection, ownWith, ownColumns, ownTables}
+use Rattle.collection.specs.Collection.{nodeGives, collected, collection, ownWith, ownColumns, ownTables}
 use Rattle.names.specs.Bindings.{entry, boundIn, bindingRow}
 use Rattle.tables.specs.Tables.{fresh, aliased, handOn, listAlias, tableReading, referenceRow}
 use Rattle.scope.specs.Scope.{withNames, tableAliases, columnAliases, tableRefs}

@@ -4,9 +4,10 @@ use mathlib.Core.Path.{_≡_, refl}
 use mathlib.Core.List.{List, [], _∷_, _++_, map}
 use Rattle.table.specs.declared.record.Rec.{Rec}
 use Rattle.table.specs.Kinds.{file, selectStatement, insertStatement, describeStatement, withClause, subqueryExpression, bareWord}
-use Rattle.table.specs.Table.{word, recordAt, run, from, records}
-use Rattle.table.specs.Forest.{level, kids}
-use Rattle.table.specs.Descent.{path, pathOf}
+use Rattle.lent.specs.Numbers.{word}
+use Rattle.table.specs.Table.{recordAt, run, from, records}
+use Rattle.forest.specs.Forest.{level, kids}
+use Rattle.forest.specs.Descent.{path, pathOf}
 use Rattle.table.specs.Ranges.{holds}
 use Rattle.table.specs.worked.Worked.{rec}
 use Rattle.statement.specs.declared.statement.Enclosing.{Enclosing}

@@ -6,10 +6,11 @@ use mathlib.Core.List.{List, [], _∷_}
 use lib.Dec.{ltb, eqb}
 use Rattle.table.specs.declared.record.Rec.{Rec}
 use Rattle.table.specs.declared.check.Known.{Known}
-use Rattle.table.specs.declared.check.Verdict.{Verdict}
+use Rattle.lent.specs.declared.verdict.Verdict.{Verdict}
 use Rattle.table.specs.Kinds.{isNode, isToken}
 use Rattle.table.specs.Table.{count, kindAt, depthAt}
-use Rattle.table.specs.Rules.{mostDepth, lastEnd, badLength, tooLong, badOffsets, rule, rulesFrom, first}
+use Rattle.table.specs.Rules.{mostDepth, lastEnd, badLength, tooLong, badOffsets, rulesFrom}
+use Rattle.lent.specs.Verdicts.{rule, first}
 
 -- how deep the record after one of kind k and depth d may be: one below a node, and no deeper than a token
 abbrev pub below : ℕ → ℕ → ℕ

@@ -4,13 +4,14 @@ use mathlib.Core.Path.{_≡_, refl}
 use mathlib.Core.List.{List, [], _∷_, _++_}
 use lib.ListN.{replicate}
 use lib.Dec.{eqb}
-use Rattle.table.specs.declared.check.Verdict.{Verdict}
-use Rattle.table.specs.declared.check.Verdict.the-variants.{Admitted, Refused}
-use Rattle.table.specs.declared.list.Listed.the-variants.{Entries, Refused as Denied}
+use Rattle.lent.specs.declared.verdict.Verdict.{Verdict}
+use Rattle.lent.specs.declared.verdict.Verdict.the-variants.{Admitted, Refused}
+use Rattle.lent.specs.declared.list.Listed.the-variants.{Entries, Refused as Denied}
 use Rattle.table.specs.Kinds.{file, selectStatement, subqueryExpression, expression, otherToken, whitespace, bareWord, arrow}
-use Rattle.table.specs.Table.{word}
-use Rattle.table.specs.Rules.{misplaced, nearest, lastEnd, badSpan, rulesFrom, verdict, rootVerdict, offsetVerdict, rule}
-use Rattle.table.specs.Lists.{le4, rowBytes, listBytes, reply, buffer, listed, lent}
+use Rattle.lent.specs.Numbers.{word, le4}
+use Rattle.table.specs.Rules.{misplaced, nearest, lastEnd, badSpan, rulesFrom, verdict, rootVerdict, offsetVerdict}
+use Rattle.lent.specs.Verdicts.{rule}
+use Rattle.lent.specs.Lists.{rowBytes, listBytes, reply, buffer, listed, lent}
 
 -- the twenty bytes of a record that carries the parent p
 abbrev pub child : ℕ → ℕ → ℕ → ℕ → ℕ → List ℕ

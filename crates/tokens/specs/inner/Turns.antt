@@ -5,9 +5,9 @@ use mathlib.Core.Bool.{Bool, false, cond}
 use mathlib.Core.List.{List}
 use lib.Dec.{eqb, ltb}
 use Rattle.table.specs.Table.{kindAt, startAt, endAt, from}
-use Rattle.table.specs.Forest.{Forest, kids}
-use Rattle.table.specs.Tokens.{reached}
-use Rattle.table.specs.Descent.{along}
+use Rattle.forest.specs.Forest.{Forest, kids}
+use Rattle.forest.specs.Tokens.{reached}
+use Rattle.forest.specs.Descent.{along}
 use Rattle.table.specs.Kinds.{openingRound, bareWord, identifier}
 use Rattle.tokens.specs.declared.last_token.Name.{Name}
 use Rattle.tokens.specs.declared.last_token.Name.the-variants.{Nameless, Named}

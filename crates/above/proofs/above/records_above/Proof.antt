@@ -1,6 +1,6 @@
 use Rattle.above.specs.Above.{aboveRow}
 use Rattle.above.proofs.AboveLaws.{number-refused, number-none, number-admitted, climbed}
-use Rattle.table.proofs.Writes.{list-refused, list-admitted}
+use Rattle.lent.proofs.Writes.{list-refused, list-admitted}
 use borrow.Author.Needs.{needs}
 use Rattle.above.proofs.above.records_above.Statement.{statement}
 use Rattle.above.proofs.above.records_above.Tie as tie

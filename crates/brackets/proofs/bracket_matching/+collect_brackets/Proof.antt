@@ -3,8 +3,8 @@ use mathlib.Core.Path.{_≡_, refl, sym, _∙_}
 use native.Mathlib.Omega.{arith}
 use lib.ListN.{length}
 use Rattle.table.specs.Table.{records}
-use Rattle.table.specs.Forest.{kids}
-use Rattle.table.proofs.Visits.{Visiting, visit-start, visit-end, visit-up, visit-token, visit-node}
+use Rattle.forest.specs.Forest.{kids}
+use Rattle.forest.proofs.Visits.{Visiting, visit-start, visit-end, visit-up, visit-token, visit-node}
 use Rattle.brackets.specs.inner.BracketStack.{stackOf, leftBy}
 use Rattle.brackets.proofs.BracketLaws.{left-nil, left-token, left-node}
 use borrow.Fn.Kinds.{In}
@@ -18,8 +18,8 @@ use Rattle.brackets.proofs.bracket_matching.stack_step.Reads as stack-s
 use Rattle.table.proofs.record.count_of.Reads as count-of-reads
 use Rattle.table.proofs.record.depth_at.Reads as depth-at-reads
 use Rattle.table.proofs.record.kind_at.Reads as kind-at-reads
-use Rattle.table.proofs.stretch.level_from.Reads as level-from-reads
-use Rattle.table.proofs.stretch.rest_from.Reads as rest-from-reads
+use Rattle.forest.proofs.stretch.level_from.Reads as level-from-reads
+use Rattle.forest.proofs.stretch.rest_from.Reads as rest-from-reads
 
 abbrev μ-collect-brackets : Measures 2 collect-brackets-kinds.ps ℕ
 μ-collect-brackets κs a = length (a .0 .now)

@@ -1,5 +1,5 @@
 use Rattle.brackets.proofs.BracketLaws.{hinted-refused, hinted-admitted}
-use Rattle.table.proofs.Sense.{admitted-tidy}
+use Rattle.forest.proofs.Sense.{admitted-tidy}
 use lib.ListN.{length}
 use mathlib.Core.Path.{sym, _∙_}
 use borrow.Author.Needs.{needs}

@@ -1,5 +1,5 @@
 use Rattle.brackets.specs.inner.BracketStack.{hintBy}
-use Rattle.table.specs.Text.{bytesOf}
+use Rattle.lent.specs.Text.{bytesOf}
 use mathlib.Core.Path.{_∙_}
 use borrow.Author.Needs.{needs}
 use Rattle.brackets.proofs.bracket_matching.hint_on.Statement.{statement}

@@ -1,6 +1,6 @@
 use Rattle.brackets.specs.Brackets.{openerRow}
-use Rattle.table.proofs.Sense.{admitted-tidy}
-use Rattle.table.proofs.Writes.{list-refused, list-admitted}
+use Rattle.forest.proofs.Sense.{admitted-tidy}
+use Rattle.lent.proofs.Writes.{list-refused, list-admitted}
 use Rattle.table.specs.Rules.{verdict}
 use lib.ListN.{length}
 use mathlib.Core.Path.{sym, _∙_}

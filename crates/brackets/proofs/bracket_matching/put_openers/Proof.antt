@@ -1,7 +1,7 @@
 use Rattle.brackets.proofs.BracketLaws.{opener-none, opener-put}
 use Rattle.brackets.specs.inner.BracketStack.{unpacked}
 use Rattle.brackets.specs.Brackets.{openerRow}
-use Rattle.table.specs.Lists.{Written}
+use Rattle.lent.specs.Lists.{Written}
 use lib.ListN.{length, take}
 use mathlib.Core.List.{map}
 use mathlib.Core.Path.{_≡_, refl}

@@ -1,5 +1,5 @@
 use Rattle.cursor.proofs.Replies.{first-given, path-given, last-given}
-use Rattle.table.proofs.Orders.{ordered-rest}
+use Rattle.forest.proofs.Orders.{ordered-rest}
 use borrow.Author.Needs.{needs}
 use native.Mathlib.Omega.{arith}
 use Rattle.cursor.proofs.cursor_context.analyze_path.Statement.{statement}

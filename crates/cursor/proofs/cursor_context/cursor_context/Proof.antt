@@ -1,6 +1,6 @@
 use Rattle.cursor.proofs.Replies.{reply-refused, reply-given}
-use Rattle.table.proofs.Orders.{admitted-ordered}
-use Rattle.table.proofs.Sense.{admitted-sized}
+use Rattle.forest.proofs.Orders.{admitted-ordered}
+use Rattle.forest.proofs.Sense.{admitted-sized}
 use borrow.Author.Needs.{needs}
 use native.Mathlib.Omega.{arith}
 use Rattle.cursor.proofs.cursor_context.cursor_context.Statement.{statement}

@@ -1,6 +1,6 @@
 use Rattle.cursor.specs.Context.{contextRow}
 use Rattle.cursors.proofs.CursorsLaws.{offset-refused, offset-admitted, ready}
-use Rattle.table.proofs.Writes.{list-refused, list-admitted}
+use Rattle.lent.proofs.Writes.{list-refused, list-admitted}
 use borrow.Author.Needs.{needs}
 use Rattle.cursors.proofs.cursors.cursor_contexts.Statement.{statement}
 use Rattle.cursors.proofs.cursors.cursor_contexts.Tie as tie

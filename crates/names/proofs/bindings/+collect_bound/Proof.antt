@@ -1,9 +1,10 @@
 use Rattle.names.proofs.Turns.{binder-node, list-node, names-token, names-bind, names-list, names-over, names-none}
 use Rattle.names.specs.inner.Binders.{names}
 use Rattle.names.specs.Bindings.{bindingRow}
-use Rattle.table.proofs.Writes.{written-none, writing, writing-turn, writing-end}
-use Rattle.table.proofs.Walks.{Walk, walk-start, walk-end, walk-next, walk-node}
-use Rattle.table.specs.Forest.{kids}
+use Rattle.lent.proofs.Writes.{written-none}
+use Rattle.forest.proofs.Writing.{writing, writing-turn, writing-end}
+use Rattle.forest.proofs.Walks.{Walk, walk-start, walk-end, walk-next, walk-node}
+use Rattle.forest.specs.Forest.{kids}
 use Rattle.table.specs.Table.{records}
 use lib.ListN.{length}
 use mathlib.Core.Path.{_≡_}
@@ -22,8 +23,8 @@ use Rattle.names.proofs.bindings.is_list.Reads as is-list-reads
 use Rattle.names.proofs.bindings.put_bound.Reads as put-bound-reads
 use Rattle.table.proofs.record.count_of.Reads as count-of-reads
 use Rattle.table.proofs.record.kind_at.Reads as kind-at-reads
-use Rattle.table.proofs.stretch.child_from.Reads as child-from-reads
-use Rattle.table.proofs.stretch.stretch_of.Reads as stretch-of-reads
+use Rattle.forest.proofs.stretch.child_from.Reads as child-from-reads
+use Rattle.forest.proofs.stretch.stretch_of.Reads as stretch-of-reads
 
 abbrev μ-collect-bound : Measures 3 collect-bound-kinds.ps ℕ
 μ-collect-bound κs a = length (a .1 .0 .now)

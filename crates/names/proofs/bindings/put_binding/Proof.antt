@@ -1,6 +1,6 @@
 use Rattle.names.specs.Bindings.{bindingRow}
 use native.Mathlib.Omega.{arith}
-use Rattle.table.proofs.Writes.{written-one}
+use Rattle.lent.proofs.Writes.{written-one}
 use borrow.Author.Needs.{needs}
 use Rattle.names.proofs.bindings.put_binding.Statement.{statement}
 use Rattle.names.proofs.bindings.put_binding.Tie as tie

@@ -1,6 +1,6 @@
 use Rattle.names.specs.Bindings.{bindingRow, entry}
 use native.Mathlib.Omega.{arith}
-use Rattle.table.proofs.Writes.{written-none}
+use Rattle.lent.proofs.Writes.{written-none}
 use borrow.Author.Needs.{needs}
 use Rattle.names.proofs.bindings.put_bound.Statement.{statement}
 use Rattle.names.proofs.bindings.put_bound.Tie as tie

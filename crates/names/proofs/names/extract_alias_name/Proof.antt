@@ -1,9 +1,9 @@
 use mathlib.Core.Path.{_∙_}
 use Rattle.names.proofs.NameLaws.{lastFrom, last-token, last-over, last-end}
 use Rattle.names.specs.Names.{aliasIn}
-use Rattle.table.proofs.Walks.{Walk, walk-start, walk-end, walk-next}
+use Rattle.forest.proofs.Walks.{Walk, walk-start, walk-end, walk-next}
 use Prim.Native.Nat.{_-_, _≤_}
-use Rattle.table.specs.Forest.{kids}
+use Rattle.forest.specs.Forest.{kids}
 use Rattle.table.specs.Table.{records, recordAt}
 use native.Mathlib.Omega.{arith}
 use Rattle.names.proofs.names.extract_alias_name.Statement.{statement}

@@ -1,6 +1,6 @@
-use Rattle.offers.proofs.OfferLaws.{root-within}
-use Rattle.table.proofs.Sense.{admitted-sized}
-use Rattle.table.proofs.Writes.{list-refused, list-admitted}
+use Rattle.cursor_root.proofs.RootLaws.{root-within}
+use Rattle.forest.proofs.Sense.{admitted-sized}
+use Rattle.lent.proofs.Writes.{list-refused, list-admitted}
 use Rattle.table.proofs.Checks.{rules-refused, rules-passed}
 use Rattle.tables.specs.inner.Rows.{asRow}
 use native.Mathlib.Omega.{arith}

@@ -1,5 +1,5 @@
 use Rattle.offers.proofs.ClimbLaws.{outer-bound, outer-within, Climbing, climb-start, climb-query, climb-other, climb-none, climb-last}
-use Rattle.offers.specs.inner.Climb.{rootBytes}
+use Rattle.seen.specs.inner.Room.{rootBytes}
 use Rattle.table.specs.Table.{count, depthAt}
 use lib.ListN.{length}
 use mathlib.Core.Path.{_≡_}

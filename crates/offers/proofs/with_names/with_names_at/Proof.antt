@@ -1,8 +1,8 @@
-use Rattle.offers.proofs.OfferLaws.{root-shallow}
+use Rattle.cursor_root.proofs.RootLaws.{root-shallow}
 use Rattle.table.proofs.Checks.{rules-refused, rules-passed}
-use Rattle.table.proofs.Sense.{admitted-sized}
-use Rattle.table.proofs.Above.{admitted-climbs}
-use Rattle.table.proofs.Writes.{list-refused, list-admitted}
+use Rattle.forest.proofs.Sense.{admitted-sized}
+use Rattle.forest.proofs.Above.{admitted-climbs}
+use Rattle.lent.proofs.Writes.{list-refused, list-admitted}
 use Rattle.names.specs.Bindings.{bindingRow}
 use borrow.Author.Needs.{needs}
 use Rattle.offers.proofs.with_names.with_names_at.Statement.{statement}

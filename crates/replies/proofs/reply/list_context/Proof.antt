@@ -1,5 +1,5 @@
 use Rattle.cursor.specs.Context.{contextRow}
-use Rattle.table.proofs.Writes.{written-one, length-wide, list-short, list-filled}
+use Rattle.lent.proofs.Writes.{written-one, length-wide, list-short, list-filled}
 use mathlib.Core.Path.{refl, sym}
 use mathlib.Core.List.{[], _∷_}
 use native.Mathlib.Omega.{arith}

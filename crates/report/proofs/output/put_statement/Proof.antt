@@ -1,4 +1,4 @@
-use Rattle.table.specs.Text.{bytesOf}
+use Rattle.lent.specs.Text.{bytesOf}
 use Rattle.report.specs.Output.{statementLine}
 use Rattle.report.proofs.Answers.{statement-found, statement-none, statement-denied}
 use mathlib.Core.Path.{sym, _∙_}

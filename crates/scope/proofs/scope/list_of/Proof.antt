@@ -1,5 +1,5 @@
 use Rattle.scope.proofs.Lists.{root-first, root-passed, root-some}
-use Rattle.table.proofs.Writes.{list-refused, list-admitted}
+use Rattle.lent.proofs.Writes.{list-refused, list-admitted}
 use Rattle.tables.specs.inner.Rows.{asRow}
 use native.Mathlib.Omega.{arith}
 use borrow.Author.Needs.{needs}

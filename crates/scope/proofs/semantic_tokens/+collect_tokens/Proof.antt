@@ -4,9 +4,9 @@ use native.Mathlib.Omega.{arith}
 use borrow.Author.Needs.{needs}
 use lib.ListN.{length}
 use Rattle.table.specs.Table.{kindAt, records}
-use Rattle.table.specs.Forest.{kids}
-use Rattle.table.proofs.Visits.{Visiting, visit-start, visit-end, visit-up, visit-token, visit-node}
-use Rattle.table.proofs.Writes.{writing, writing-step, writing-end}
+use Rattle.forest.specs.Forest.{kids}
+use Rattle.forest.proofs.Visits.{Visiting, visit-start, visit-end, visit-up, visit-token, visit-node}
+use Rattle.forest.proofs.Writing.{writing, writing-step, writing-end}
 use Rattle.scope.specs.Classes.{classes, classRow}
 use Rattle.scope.proofs.ClassLaws.{class-nil, class-token, class-node}
 use borrow.Fn.Kinds.{In}
@@ -23,8 +23,8 @@ use Rattle.table.proofs.record.depth_at.Reads as depth-at-reads
 use Rattle.table.proofs.record.end_at.Reads as end-at-reads
 use Rattle.table.proofs.record.kind_at.Reads as kind-at-reads
 use Rattle.table.proofs.record.start_at.Reads as start-at-reads
-use Rattle.table.proofs.stretch.level_from.Reads as level-from-reads
-use Rattle.table.proofs.stretch.rest_from.Reads as rest-from-reads
+use Rattle.forest.proofs.stretch.level_from.Reads as level-from-reads
+use Rattle.forest.proofs.stretch.rest_from.Reads as rest-from-reads
 
 abbrev μ-collect-tokens : Measures 5 collect-tokens-kinds.ps ℕ
 μ-collect-tokens κs a = length (a .1 .1 .0 .now)

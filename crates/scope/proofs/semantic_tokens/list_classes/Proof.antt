@@ -1,5 +1,5 @@
 use Rattle.scope.specs.Classes.{classRow}
-use Rattle.table.proofs.Writes.{list-filled, list-short}
+use Rattle.lent.proofs.Writes.{list-filled, list-short}
 use mathlib.Core.Logic.{⊎-elim}
 use mathlib.Core.List.{[]}
 use mathlib.Core.Path.{refl}

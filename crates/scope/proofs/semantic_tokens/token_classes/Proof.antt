@@ -1,10 +1,10 @@
 use Rattle.scope.specs.Classes.{classRow}
 use Rattle.keywords.specs.inner.KeywordTable.{keywordBytes}
 use Rattle.keywords.specs.Keywords.{keywords}
-use Rattle.table.proofs.Sense.{admitted-tidy}
+use Rattle.forest.proofs.Sense.{admitted-tidy}
 use Rattle.table.proofs.Checks.{rules-refused, rules-passed}
-use Rattle.table.proofs.Writes.{list-refused, list-admitted}
-use Rattle.table.specs.Text.{bytesOf}
+use Rattle.lent.proofs.Writes.{list-refused, list-admitted}
+use Rattle.lent.specs.Text.{bytesOf}
 use mathlib.Core.List.{flatten}
 use mathlib.Core.Path.{refl, sym, _∙_}
 use native.Mathlib.Omega.{arith}

@@ -15,8 +15,8 @@ use Rattle.statement.proofs.statement.else_itself.Reads as else-itself-
 use Rattle.table.proofs.range.is_holder.Reads as is-holder-reads
 use Rattle.table.proofs.record.count_of.Reads as count-of-reads
 use Rattle.table.proofs.record.kind_at.Reads as kind-at-reads
-use Rattle.table.proofs.stretch.child_from.Reads as child-from-reads
-use Rattle.table.proofs.stretch.rest_from.Reads as rest-from-reads
+use Rattle.forest.proofs.stretch.child_from.Reads as child-from-reads
+use Rattle.forest.proofs.stretch.rest_from.Reads as rest-from-reads
 
 abbrev μ-first-find : Measures 1 first-find-kinds.ps ℕ
 μ-first-find κs a = length (a .0 .now)

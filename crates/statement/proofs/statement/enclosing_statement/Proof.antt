@@ -1,5 +1,5 @@
 use Rattle.statement.proofs.Statements.{reply-refused, reply-told}
-use Rattle.table.proofs.Sense.{admitted-sized}
+use Rattle.forest.proofs.Sense.{admitted-sized}
 use borrow.Author.Needs.{needs}
 use Rattle.statement.proofs.statement.enclosing_statement.Statement.{statement}
 use Rattle.statement.proofs.statement.enclosing_statement.Tie as tie

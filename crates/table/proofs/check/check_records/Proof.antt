@@ -1,7 +1,8 @@
 use mathlib.Core.Path.{refl, sym, _∙_}
 use Prim.Native.Nat.{_-_, _≤_}
 use Rattle.table.specs.Table.{count}
-use Rattle.table.specs.Rules.{mostRecords, first, rulesFrom}
+use Rattle.table.specs.Rules.{mostRecords, rulesFrom}
+use Rattle.lent.specs.Verdicts.{first}
 use Rattle.table.proofs.Checks.{Checking, checking-start, checking-misfit, fit-depth, checking-parent, checking-span, checking-next, checking-end}
 use native.Mathlib.Omega.{arith}
 use Rattle.table.proofs.check.check_records.Statement.{statement}

@@ -1,8 +1,8 @@
 use Rattle.tables.proofs.PendingLaws.{shiftedIn, shifted-start, shifted-part, shifted-on, shifted-over, shifted-none, shifted-many, shifted-held, part-not}
 use Rattle.tables.specs.Tables.{fresh}
 use Rattle.names.specs.Names.{isPart, direct}
-use Rattle.table.proofs.Walks.{Walk, walk-from, walk-end, walk-next}
-use Rattle.table.specs.Forest.{kids}
+use Rattle.forest.proofs.Walks.{Walk, walk-from, walk-end, walk-next}
+use Rattle.forest.specs.Forest.{kids}
 use Rattle.table.specs.Table.{records, recordAt}
 use mathlib.Core.Path.{_∙_, sym}
 use Prim.Native.Nat.{_-_, _≤_, _<_}

@@ -2,9 +2,10 @@ use Rattle.tables.proofs.Turns.{read-token, read-name, read-alias, read
 use Rattle.tables.specs.inner.Rows.{asRow, rowsOf}
 use Rattle.tables.specs.Tables.{tableReading}
 use Rattle.tables.specs.declared.pending.Pending.the-variants.{Nothing}
-use Rattle.table.proofs.Writes.{written-none, written-then, writing, writing-turn, writing-last}
-use Rattle.table.proofs.Walks.{Walk, walk-start, walk-end, walk-next, walk-node}
-use Rattle.table.specs.Forest.{kids}
+use Rattle.lent.proofs.Writes.{written-none, written-then}
+use Rattle.forest.proofs.Writing.{writing, writing-turn, writing-last}
+use Rattle.forest.proofs.Walks.{Walk, walk-start, walk-end, walk-next, walk-node}
+use Rattle.forest.specs.Forest.{kids}
 use Rattle.table.specs.Table.{records}
 use lib.ListN.{length}
 use mathlib.Core.Path.{_≡_}
@@ -24,8 +25,8 @@ use Rattle.tables.proofs.tables.put_alias.Reads as put-alias-reads
 use Rattle.tables.proofs.pending.with_alias.Reads as with-alias-reads
 use Rattle.table.proofs.record.count_of.Reads as count-of-reads
 use Rattle.table.proofs.record.kind_at.Reads as kind-at-reads
-use Rattle.table.proofs.stretch.child_from.Reads as child-from-reads
-use Rattle.table.proofs.stretch.stretch_of.Reads as stretch-of-reads
+use Rattle.forest.proofs.stretch.child_from.Reads as child-from-reads
+use Rattle.forest.proofs.stretch.stretch_of.Reads as stretch-of-reads
 
 abbrev μ-collect-table-refs : Measures 3 collect-table-refs-kinds.ps ℕ
 μ-collect-table-refs κs a = length (a .1 .0 .now)

@@ -1,5 +1,5 @@
 use Rattle.tables.proofs.Turns.{hand-none, hand-held, hand-nothing}
-use Rattle.table.proofs.Writes.{written-none, written-map}
+use Rattle.lent.proofs.Writes.{written-none, written-map}
 use Rattle.tables.specs.Tables.{referenceRow}
 use Rattle.tables.specs.inner.Rows.{asRow}
 use native.Mathlib.Omega.{arith}

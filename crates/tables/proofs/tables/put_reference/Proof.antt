@@ -1,6 +1,6 @@
 use Rattle.tables.specs.Tables.{referenceRow}
 use native.Mathlib.Omega.{arith}
-use Rattle.table.proofs.Writes.{written-one}
+use Rattle.lent.proofs.Writes.{written-one}
 use borrow.Author.Needs.{needs}
 use Rattle.tables.proofs.tables.put_reference.Statement.{statement}
 use Rattle.tables.proofs.tables.put_reference.Tie as tie

@@ -1,5 +1,5 @@
 use Rattle.tokens.proofs.Functions.{name-here, name-next}
-use Rattle.table.proofs.Walking.{Walks, walks-none, walks-start, walks-end}
+use Rattle.forest.proofs.Walking.{Walks, walks-none, walks-start, walks-end}
 use Rattle.tokens.specs.Function.{functionName}
 use borrow.Author.Needs.{needs}
 use Prim.Native.Nat.{_-_, _≤_}

@@ -1,5 +1,5 @@
 use Rattle.tokens.proofs.Functions.{bare-here, bare-next}
-use Rattle.table.proofs.Walking.{Walks, walks-none, walks-start, walks-end}
+use Rattle.forest.proofs.Walking.{Walks, walks-none, walks-start, walks-end}
 use Rattle.tokens.specs.Function.{bareWordIn}
 use Prim.Native.Nat.{_-_, _≤_}
 use native.Mathlib.Omega.{arith}

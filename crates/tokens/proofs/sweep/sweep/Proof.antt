@@ -1,4 +1,4 @@
-use Rattle.table.proofs.Walking.{sweeps-end, sweeps-stop, sweeps-over}
+use Rattle.forest.proofs.Walking.{sweeps-end, sweeps-stop, sweeps-over}
 use Rattle.tokens.specs.inner.Turns.{meant}
 use Rattle.tokens.proofs.Early.{swept-past}
 use Rattle.tokens.proofs.Tokens.{Reads, meant-nothing, meant-turn, swept-none, swept-start, swept-token, swept-node}

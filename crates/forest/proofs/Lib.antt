@@ -1,0 +1,13 @@
+pub mod Above
+pub mod Descents
+pub mod Laws
+pub mod Orders
+pub mod Places
+pub mod Reaches
+pub mod Rooted
+pub mod Scans
+pub mod Sense
+pub mod Visits
+pub mod Walking
+pub mod Walks
+pub mod Writing

@@ -1,0 +1,17 @@
+use Rattle.forest.proofs.Visits.{reached-none, reached-stop, reached-child}
+use mathlib.Core.Path.{refl}
+use native.Mathlib.Omega.{arith}
+use Rattle.forest.proofs.stretch.child_from.Statement.{statement}
+use Rattle.forest.proofs.stretch.child_from.Tie as tie
+
+pub child-from-spec : {M : Type 1} → statement M
+child-from-spec =
+    tie.close
+    (tie.spec
+    (λ c κs. omega arith)  -- depth-at-requires
+    (λ c. omega arith)  -- add-k
+    (λ c κs. omega arith)  -- far-from-requires
+    (λ c. reached-none (c .before .far-from .ensures) (omega (arith, c .before .before .depth-at .ensures .0)) (omega arith) refl)  -- returns
+    (λ c κs. omega (arith, c .before .far-from .ensures .within))  -- depth-at-requires-2
+    (λ c. reached-stop (c .before .before .before .far-from .ensures) (omega (arith, c .before .before .before .before .depth-at .ensures .0)) (omega (arith, c .before .before .before .far-from .ensures .within)) (omega arith) refl)  -- returns-2
+    (λ c. reached-child (c .before .before .before .far-from .ensures) (omega (arith, c .before .before .before .before .depth-at .ensures .0)) (omega (arith, c .before .before .before .far-from .ensures .within)) (omega arith)))  -- returns-3

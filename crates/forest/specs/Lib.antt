@@ -1,0 +1,7 @@
+pub mod Above
+pub mod Descent
+pub mod Forest
+pub mod Places
+pub mod Sense
+pub mod Tokens
+pub mod inner

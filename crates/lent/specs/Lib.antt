@@ -1,0 +1,4 @@
+pub mod Lists
+pub mod Numbers
+pub mod Text
+pub mod Verdicts

@@ -1,0 +1,35 @@
+// A list of entries in a lent buffer: an entry is some 32-bit little-endian numbers.
+use crate::number::NUMBER_BYTES;
+use crate::number::put_number;
+ghost use mathlib.Core.Path.{_≡_};
+ghost use Prim.Native.Nat.{_+_, _*_, _≤_, _<_};
+ghost use lib.ListN.{length};
+ghost use Rattle.lent.specs.Numbers.{numberBytes};
+ghost use Rattle.lent.specs.Lists.{farthest, put};
+
+// The reply to a question for a list.
+pub enum Listed {
+    // how many entries were written
+    Entries(u32),
+    // the refusal's number and its detail
+    Refused(u32, u32),
+}
+
+// Writes an entry's numbers from byte `at` on, if out has room for all of them there, and returns where the next entry goes.
+pub fn put_entry(out: &mut [u8], at: usize, entry: &[usize]) -> usize
+    requires { ⌜ (at < farthest) × (length (now entry) < 1024) ⌝ }
+    ensures { λ r. ⌜ (now (out .exit) ≡ put (now (out .entry)) at (now (entry .entry)))
+        × (r ≡ at + numberBytes * length (now (entry .entry))) ⌝ }
+{
+    let n = entry.len();
+    let next = at + NUMBER_BYTES * n;
+    if out.len() < next {
+        return next;
+    }
+    let mut i = 0;
+    while i < n {
+        put_number(out, at + NUMBER_BYTES * i, entry[i]);
+        i += 1;
+    }
+    next
+}
