@@ -1,5 +1,6 @@
 //! The comparison with the Rust.
-//!   oracle compare FRAMES SEED FLIP EVERY GLANCE..          compares; exit 1 at a difference. FLIP falsifies one of our answers (1 to 44; 0 none).
+//!   oracle compare FRAMES SEED FLIP EVERY GLANCE..          compares; exit 1 at a difference. FRAMES is how many, or FROM-TO for a part of a run.
+//!                                                           FLIP falsifies one of our answers (`oracle answers` says how many there are; 0 none).
 //!                                                           GLANCE.. is the program with its words, asked for one frame in EVERY
 //!   oracle listed                                           asks both sides the frames of the listed differences
 //!   oracle store FILE FRAMES SEED                           writes the stored list
@@ -42,17 +43,21 @@ fn sort_of(i: usize) -> Sort {
     }
 }
 
-fn compare(frames: usize, seed: u64, glance: Program) -> bool {
+fn compare(frames: std::ops::Range<usize>, seed: u64, glance: Program) -> bool {
     let mut agreed = [0; SORTS.len()];
     let mut tally = Tally::default();
-    if !listed::listed(false) {
-        return false;
+    // what is made by hand is asked once a run, with its first frame
+    if frames.start == 0 {
+        if !listed::listed(false) {
+            return false;
+        }
+        println!("the listed differences are as listed");
+        if let Err(why) = glance.by_hand(&mut tally) {
+            println!("{why}");
+            return false;
+        }
     }
-    if let Err(why) = glance.by_hand(&mut tally) {
-        println!("{why}");
-        return false;
-    }
-    for i in 0..frames {
+    for i in frames {
         let sort = sort_of(i);
         let mut s = Seed((seed << 32 | i as u64).wrapping_mul(0x9E3779B97F4A7C15) | 1);
         let f = frame(sort, &mut s);
@@ -72,7 +77,6 @@ fn compare(frames: usize, seed: u64, glance: Program) -> bool {
         }
         agreed[SORTS.iter().position(|&x| x == sort).expect("one")] += 1;
     }
-    println!("the listed differences are as listed");
     for (sort, n) in SORTS.iter().zip(agreed) {
         println!("{n} frames {sort:?} agreed");
     }
@@ -81,8 +85,14 @@ fn compare(frames: usize, seed: u64, glance: Program) -> bool {
     println!("the Rust stopped at a lone quote mark {} times; {} frames are no text, and were asked with a mark for each byte over 127", tally.stopped, tally.no_text);
     println!("refusals by number: {:?}", &tally.refused[1..]);
     println!("contexts by number: {:?}", tally.contexts);
-    if glance.asks(0) { println!("{} inputs agreed through glance, those made by hand and one for each {} of these frames", tally.glanced, glance.every) }
+    if glance.asks(0) { println!("{} inputs agreed through glance, one for each {} of these frames and, with the first of them, those made by hand", tally.glanced, glance.every) }
     true
+}
+
+/// `FRAMES`, or a part of a run: `FROM-TO`, the last not counted.
+fn part(frames: &str) -> std::ops::Range<usize> {
+    let number = |a: &str| a.parse().expect("a number");
+    frames.split_once('-').map_or_else(|| 0..number(frames), |(from, to)| number(from)..number(to))
 }
 
 fn main() {
@@ -95,7 +105,11 @@ fn main() {
             let flip = number(3, 0);
             assert!(flip <= FLIPS, "no such answer");
             FLIP.store(flip, Ordering::Relaxed);
-            compare(number(1, 2000), number(2, 1) as u64, Program { words: args.get(5..).unwrap_or(&[]), every: number(4, 1) })
+            compare(part(args.get(1).map_or("2000", |a| a)), number(2, 1) as u64, Program { words: args.get(5..).unwrap_or(&[]), every: number(4, 1) })
+        }
+        Some("answers") => {
+            println!("{FLIPS}");
+            true
         }
         Some("listed") => listed::listed(true),
         Some("store") => match store::store(number(2, 3600), number(3, 1) as u64) {
