@@ -14,7 +14,6 @@ use lib.Seq.{drop-cons, take-all}
 use Rattle.lent.proofs.Cases.{both}
 use Rattle.lent.specs.Text.{text, upper, upperWord, same, says}
 
-
 -- words that are the same have one length
 pub same-length : (a b : List ℕ) → same a b ≡ true → length a ≡ length b
 same-length [] [] e = refl

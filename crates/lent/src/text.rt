@@ -30,13 +30,16 @@ pub fn upper(b: u8) -> u8
     }
 }
 
-// Two words of one length are the same.
+// Two words are the same.
 pub fn same(a: &[u8], b: &[u8]) -> bool
-    requires { ⌜ length (now a) ≡ length (now b) ⌝ }
     ensures { λ r. ⌜ r ≡ same (now (a .entry)) (now (b .entry)) ⌝ }
 {
+    let n = a.len();
+    if b.len() != n {
+        return false;
+    }
     let mut i = 0;
-    while i < a.len() {
+    while i < n {
         if a[i] != b[i] {
             return false;
         }
