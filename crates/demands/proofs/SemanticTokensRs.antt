@@ -17,11 +17,12 @@ use Rattle.forest.specs.Forest.{Forest, nil, token, node, level, kids}
 use Rattle.table.specs.Rules.{verdict}
 use Rattle.forest.specs.Sense.{Tidy, Linked, inOrder, byDepth, treeOf}
 use Rattle.lent.specs.Text.{text}
-use Rattle.scope.specs.declared.semantic_tokens.TokenClass.{TokenClass}
-use Rattle.scope.specs.declared.semantic_tokens.TokenClass.the-variants.{Keyword, Function, StringLiteral, Number, Comment, Operator, Variable, TypeName, Parameter, Property, Unclassed}
+use Rattle.classes.specs.declared.token_class.TokenClass.{TokenClass}
+use Rattle.classes.specs.declared.token_class.TokenClass.the-variants.{Keyword, Function, StringLiteral, Number, Comment, Operator, Variable, TypeName, Parameter, Property, Unclassed}
 use Rattle.scope.specs.declared.semantic_tokens.ClassedToken.{ClassedToken}
 use Rattle.keywords.specs.Keywords.{isKeyword}
-use Rattle.scope.specs.Classes.{classesOf, between, judged, bareword, byParent, classOf, numberOf, entryOf, classes}
+use Rattle.scope.specs.Classes.{classesOf, entryOf, classes}
+use Rattle.classes.specs.TokenClass.{between, judged, bareword, byParent, classOf, numberOf}
 use Rattle.forest.proofs.Orders.{tidy-ordered}
 use Rattle.forest.proofs.Sense.{admitted-tidy, whole-tree}
 use Rattle.keywords.proofs.KeywordLaws.{not-keyword}

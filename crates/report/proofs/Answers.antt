@@ -30,10 +30,11 @@ use Rattle.forest.proofs.Sense.{admitted-tidy, whole-tree}
 use Rattle.statement.specs.declared.statement.Enclosing.{Enclosing}
 use Rattle.statement.specs.declared.statement.Enclosing.the-variants.{Outside, Record}
 use Rattle.statement.specs.declared.statement.StatementReply.the-variants.{Statement, NoStatement, Refused as Unstated}
-use Rattle.scope.specs.declared.semantic_tokens.TokenClass.{TokenClass}
+use Rattle.classes.specs.declared.token_class.TokenClass.{TokenClass}
 use Rattle.statement.specs.Statement.{told, statementReply}
-use Rattle.scope.specs.Classes.{numberOf, entryOf, classOf, classes, classesOf}
-use Rattle.scope.specs.declared.semantic_tokens.TokenClass.the-variants.{Unclassed}
+use Rattle.classes.specs.TokenClass.{numberOf, classOf}
+use Rattle.scope.specs.Classes.{entryOf, classes, classesOf}
+use Rattle.classes.specs.declared.token_class.TokenClass.the-variants.{Unclassed}
 use Rattle.brackets.specs.Brackets.{isOpener, isCloser, fits, closed, stackStep, left, stackLeft, indexOf, openersLeft}
 use Rattle.tables.specs.Tables.{referenceBytes, referenceRow}
 use Rattle.scope.specs.Scope.{tableRefs}

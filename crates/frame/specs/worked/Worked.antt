@@ -16,7 +16,8 @@ use Rattle.lent.specs.Text.{text, bytesOf, upper, says}
 use Rattle.forest.specs.Tokens.{only, tokensOf}
 use Rattle.forest.specs.Descent.{path, pathOf, along}
 use Rattle.keywords.specs.Keywords.{isKeyword, keywords}
-use Rattle.scope.specs.Classes.{between, judged, bareword, byParent, classOf, numberOf, entryOf, classes}
+use Rattle.classes.specs.TokenClass.{between, judged, bareword, byParent, classOf, numberOf}
+use Rattle.scope.specs.Classes.{entryOf, classes}
 use Rattle.brackets.specs.Brackets.{fits, closed, stackStep, left}
 use Rattle.names.specs.Names.{isAs, isPart, isName, direct, unquoted, nameOf, binding, firstNamed, lastNamed}
 use Rattle.collection.specs.Collection.{nodeGives, collected, collection, ownWith, ownColumns, ownTables}

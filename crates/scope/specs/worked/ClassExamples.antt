@@ -8,10 +8,11 @@ use Rattle.table.specs.Table.{recordAt, run, from}
 use Rattle.forest.specs.Forest.{level, kids}
 use Rattle.lent.specs.Text.{bytesOf, upper, text}
 use Rattle.table.specs.worked.Worked.{rec}
-use Rattle.scope.specs.declared.semantic_tokens.TokenClass.the-variants.{Keyword, Function, StringLiteral, Number, Comment, Operator, Variable, TypeName, Parameter, Property, Unclassed}
+use Rattle.classes.specs.declared.token_class.TokenClass.the-variants.{Keyword, Function, StringLiteral, Number, Comment, Operator, Variable, TypeName, Parameter, Property, Unclassed}
 use Rattle.scope.specs.declared.semantic_tokens.ClassedToken.{ClassedToken}
 use Rattle.keywords.specs.Keywords.{keywords, isKeyword}
-use Rattle.scope.specs.Classes.{between, judged, bareword, byParent, classOf, numberOf, entryOf, classes, classesOf}
+use Rattle.classes.specs.TokenClass.{between, judged, bareword, byParent, classOf, numberOf}
+use Rattle.scope.specs.Classes.{entryOf, classes, classesOf}
 
 -- ---- each class, by the token's kind
 

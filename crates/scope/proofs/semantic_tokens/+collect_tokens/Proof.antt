@@ -16,7 +16,7 @@ use Rattle.scope.proofs.semantic_tokens.+collect_tokens.Tie.{close}
 use Rattle.scope.proofs.semantic_tokens.collect_tokens.Reads as collect-tokens
 use Rattle.scope.proofs.semantic_tokens.collect_tokens.Kinds as collect-tokens-kinds
 use Rattle.scope.proofs.semantic_tokens.+collect_tokens.Lts-collect_tokens as collect-tokens-lts
-use Rattle.scope.proofs.semantic_tokens.classify_token.Reads as classify-token-reads
+use Rattle.classes.proofs.token_class.classify_token.Reads as classify-token-reads
 use Rattle.scope.proofs.semantic_tokens.put_class.Reads as put-class-reads
 use Rattle.table.proofs.record.count_of.Reads as count-of-reads
 use Rattle.table.proofs.record.depth_at.Reads as depth-at-reads

@@ -1,8 +1,8 @@
-use Rattle.scope.proofs.ClassLaws.{token-comment, token-number, token-quoted, token-word, token-string, token-operator, token-none}
+use Rattle.classes.proofs.TokenLaws.{token-comment, token-number, token-quoted, token-word, token-string, token-operator, token-none}
 use native.Mathlib.Omega.{arith}
 use borrow.Author.Needs.{needs}
-use Rattle.scope.proofs.semantic_tokens.classify_token.Statement.{statement}
-use Rattle.scope.proofs.semantic_tokens.classify_token.Tie as tie
+use Rattle.classes.proofs.token_class.classify_token.Statement.{statement}
+use Rattle.classes.proofs.token_class.classify_token.Tie as tie
 
 pub classify-token-spec : {M : Type 1} → statement M
 classify-token-spec =

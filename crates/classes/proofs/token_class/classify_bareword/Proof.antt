@@ -1,11 +1,11 @@
-use Rattle.scope.specs.Classes.{bareword}
-use Rattle.scope.proofs.ClassLaws.{word-type, word-parameter, word-keyword}
+use Rattle.classes.specs.TokenClass.{bareword}
+use Rattle.classes.proofs.TokenLaws.{word-type, word-parameter, word-keyword}
 use mathlib.Core.Logic.{⊎-elim}
 use mathlib.Core.Path.{_∙_}
 use native.Mathlib.Omega.{arith}
 use borrow.Author.Needs.{needs}
-use Rattle.scope.proofs.semantic_tokens.classify_bareword.Statement.{statement}
-use Rattle.scope.proofs.semantic_tokens.classify_bareword.Tie as tie
+use Rattle.classes.proofs.token_class.classify_bareword.Statement.{statement}
+use Rattle.classes.proofs.token_class.classify_bareword.Tie as tie
 
 pub classify-bareword-spec : {M : Type 1} → statement M
 unfolding bareword

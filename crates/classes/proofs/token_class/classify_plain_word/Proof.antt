@@ -1,8 +1,8 @@
-use Rattle.scope.proofs.ClassLaws.{word-type, word-parameter, word-function, word-table, word-definition, word-alias, word-column, word-expression, word-none}
+use Rattle.classes.proofs.TokenLaws.{word-type, word-parameter, word-function, word-table, word-definition, word-alias, word-column, word-expression, word-none}
 use mathlib.Core.Bool.{false}
 use native.Mathlib.Omega.{arith}
-use Rattle.scope.proofs.semantic_tokens.classify_plain_word.Statement.{statement}
-use Rattle.scope.proofs.semantic_tokens.classify_plain_word.Tie as tie
+use Rattle.classes.proofs.token_class.classify_plain_word.Statement.{statement}
+use Rattle.classes.proofs.token_class.classify_plain_word.Tie as tie
 
 pub classify-plain-word-spec : {M : Type 1} → statement M
 classify-plain-word-spec =

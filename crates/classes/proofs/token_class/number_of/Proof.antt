@@ -1,7 +1,7 @@
-use Rattle.scope.specs.Classes.{numberOf}
+use Rattle.classes.specs.TokenClass.{numberOf}
 use borrow.Author.Needs.{needs}
-use Rattle.scope.proofs.semantic_tokens.number_of.Statement.{statement}
-use Rattle.scope.proofs.semantic_tokens.number_of.Tie as tie
+use Rattle.classes.proofs.token_class.number_of.Statement.{statement}
+use Rattle.classes.proofs.token_class.number_of.Tie as tie
 
 pub number-of-spec : {M : Type 1} → statement M
 unfolding numberOf
