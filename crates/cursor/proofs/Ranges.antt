@@ -23,20 +23,20 @@ use Rattle.forest.proofs.Laws.{node-or-token, level-shallow, level-deep, level-
 use Rattle.forest.proofs.Sense.{admitted-tidy}
 use Rattle.tokens.specs.declared.last_token.Name.{Name}
 use Rattle.tokens.specs.declared.last_token.Name.the-variants.{Nameless, Named}
-use Rattle.cursor.specs.declared.context.CursorContext.{CursorContext}
-use Rattle.cursor.specs.declared.context.CursorContext.the-variants.{Expression, SelectExpression, StatementStart, Unknown}
-use Rattle.cursor.specs.declared.context.Answer.{Answer}
-use Rattle.cursor.specs.declared.context.Answer.the-variants.{GoOn, Given}
-use Rattle.cursor.specs.declared.trailing.Clause.{Clause}
-use Rattle.cursor.specs.declared.trailing.Clause.the-variants.{NoClause, Ends}
+use Rattle.contexts.specs.declared.context.CursorContext.{CursorContext}
+use Rattle.contexts.specs.declared.context.CursorContext.the-variants.{Expression, SelectExpression, StatementStart, Unknown}
+use Rattle.contexts.specs.declared.context.Answer.{Answer}
+use Rattle.contexts.specs.declared.context.Answer.the-variants.{GoOn, Given}
+use Rattle.contexts.specs.declared.trailing.Clause.{Clause}
+use Rattle.contexts.specs.declared.trailing.Clause.the-variants.{NoClause, Ends}
 use Rattle.path.specs.Path.{pathAt, oneOf, deepest, onPath, trails}
 use Rattle.tokens.specs.LastToken.{named, lastTwo, dotted, isJoinWord}
 use Rattle.tokens.specs.Function.{bareWordIn, orName, functionName, arguments}
-use Rattle.cursor.specs.Trailing.{lastClause, pastClause, pastEnd, trailingIn, trailingRule}
-use Rattle.cursor.specs.PathRules.{NodeRule, Seen, tableReference, joined, functionArgument, columnOr, column, pathRules, ruled, elseAsk, seen, byPath, pathRule}
+use Rattle.contexts.specs.Trailing.{lastClause, pastClause, pastEnd, trailingIn, trailingRule}
+use Rattle.contexts.specs.PathRules.{NodeRule, Seen, tableReference, joined, functionArgument, columnOr, column, pathRules, ruled, elseAsk, seen, byPath, pathRule}
 use Rattle.cursor.specs.CursorContext.{startsAfter, lastRule, givenOr, contextAt}
-use Rattle.cursor.specs.Context.{coded, Starts, Ranged}
-use Rattle.cursor.proofs.Coded.{tells-apart}
+use Rattle.contexts.specs.Context.{coded, Starts, Ranged}
+use Rattle.contexts.proofs.Coded.{tells-apart}
 
 -- ---- what holds of each token of a table holds of each token of its tree
 

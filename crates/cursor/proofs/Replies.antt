@@ -14,13 +14,14 @@ use Rattle.forest.specs.Forest.{kids, inside}
 use Rattle.table.specs.Rules.{verdict}
 use Rattle.forest.proofs.Sense.{admitted-tidy}
 use Rattle.path.specs.declared.gathered.Gathered.{Gathered}
-use Rattle.cursor.specs.declared.context.CursorContext.{CursorContext}
-use Rattle.cursor.specs.declared.context.Answer.{Answer}
-use Rattle.cursor.specs.declared.context.Answer.the-variants.{GoOn, Given}
-use Rattle.cursor.specs.declared.context.ContextReply.{ContextReply}
-use Rattle.cursor.specs.declared.context.ContextReply.the-variants.{Context, Refused as Denied}
+use Rattle.contexts.specs.declared.context.CursorContext.{CursorContext}
+use Rattle.contexts.specs.declared.context.Answer.{Answer}
+use Rattle.contexts.specs.declared.context.Answer.the-variants.{GoOn, Given}
+use Rattle.contexts.specs.declared.context.ContextReply.{ContextReply}
+use Rattle.contexts.specs.declared.context.ContextReply.the-variants.{Context, Refused as Denied}
 use Rattle.cursor.specs.CursorContext.{lastRule, givenOr, contextReply}
-use Rattle.cursor.specs.inner.Steps.{trailingFrom, givenBy, told, ruledBy, analyzed}
+use Rattle.contexts.specs.inner.ByNumber.{trailingFrom, givenBy}
+use Rattle.cursor.specs.inner.Steps.{told, ruledBy, analyzed}
 use Rattle.forest.proofs.Visits.{rest-kind}
 use Rattle.forest.proofs.Walking.{rest-inside}
 

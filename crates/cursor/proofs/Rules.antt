@@ -15,13 +15,14 @@ use Rattle.forest.specs.Descent.{along}
 use Rattle.path.specs.declared.gathered.Next.{Next}
 use Rattle.path.specs.declared.gathered.Next.the-variants.{Deepest, Above}
 use Rattle.path.specs.declared.gathered.Gathered.{Gathered}
-use Rattle.cursor.specs.declared.context.Answer.{Answer}
-use Rattle.cursor.specs.declared.context.Answer.the-variants.{GoOn, Given}
+use Rattle.contexts.specs.declared.context.Answer.{Answer}
+use Rattle.contexts.specs.declared.context.Answer.the-variants.{GoOn, Given}
 use Rattle.path.specs.Path.{pathAt, oneOf, deepest, onPath, trails, nextOf}
-use Rattle.cursor.specs.Trailing.{trailingIn}
-use Rattle.cursor.specs.PathRules.{NodeRule, Seen, pathRules, ruled, elseAsk, byPath}
+use Rattle.contexts.specs.Trailing.{trailingIn}
+use Rattle.contexts.specs.PathRules.{NodeRule, Seen, pathRules, ruled, elseAsk, byPath}
 use Rattle.cursor.specs.CursorContext.{contextAt}
-use Rattle.cursor.specs.inner.Steps.{gives, trailingFrom, givenBy, told, ruledBy, analyzed}
+use Rattle.contexts.specs.inner.ByNumber.{gives, trailingFrom, givenBy}
+use Rattle.cursor.specs.inner.Steps.{told, ruledBy, analyzed}
 use Rattle.path.specs.inner.Rules.{ruleOf}
 use Rattle.path.specs.inner.Gathered.{settled, stepped, nothing, gathered}
 use Rattle.path.proofs.Kinded.{Kinded, path-kinds}

@@ -1,9 +1,9 @@
 // The context at the cursor: the rules in their order.
-use crate::context::Answer;
-use crate::context::ContextReply;
-use crate::context::CursorContext;
-use crate::path_rules::rule_context;
-use crate::trailing::check_trailing_clause;
+use contexts::context::Answer;
+use contexts::context::ContextReply;
+use contexts::context::CursorContext;
+use contexts::path_rules::rule_context;
+use contexts::trailing::check_trailing_clause;
 use forest::stretch::rest_from;
 use lent::text::text_of;
 use lent::verdict::Verdict;

@@ -23,9 +23,9 @@ use Rattle.lent.specs.Lists.{put, listBytes, Written, Answers}
 use Rattle.lent.proofs.Writes.{written-none, written-one, written-then, length-wide, list-filled, list-short}
 use Rattle.forest.proofs.Orders.{admitted-ordered}
 use Rattle.forest.proofs.Sense.{admitted-sized}
-use Rattle.cursor.specs.declared.context.CursorContext.{CursorContext}
-use Rattle.cursor.specs.declared.context.Coded.{Coded}
-use Rattle.cursor.specs.Context.{coded, contextRow}
+use Rattle.contexts.specs.declared.context.CursorContext.{CursorContext}
+use Rattle.contexts.specs.declared.context.Coded.{Coded}
+use Rattle.contexts.specs.Context.{coded, contextRow}
 use Rattle.cursor.specs.CursorContext.{contextAt}
 use Rattle.cursors.specs.Cursors.{offsetsFrom, offsetsOf, contextsAt}
 use Rattle.cursors.specs.inner.Ready.{Ready}

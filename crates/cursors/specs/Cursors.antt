@@ -5,7 +5,7 @@ use mathlib.Core.List.{List, [], _∷_, map}
 use lib.ListN.{length}
 use Rattle.lent.specs.Numbers.{word}
 use Rattle.table.specs.Rules.{offsetBytes}
-use Rattle.cursor.specs.declared.context.CursorContext.{CursorContext}
+use Rattle.contexts.specs.declared.context.CursorContext.{CursorContext}
 use Rattle.cursor.specs.CursorContext.{contextAt}
 
 -- n offsets of the bytes os, from offset i on: four bytes each, little-endian

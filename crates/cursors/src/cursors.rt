@@ -1,6 +1,6 @@
 // The contexts at all cursors of a shared page (document 02, §2): one call, one check, and record 0's children read once for all.
+use contexts::context::code_of;
 use crate::starts::begin_all;
-use cursor::context::code_of;
 use cursor::cursor_context::context_from;
 use forest::stretch::child_from;
 use lent::list::Listed;
@@ -16,7 +16,7 @@ ghost use mathlib.Core.List.{[]};
 ghost use lib.ListN.{length};
 ghost use Rattle.table.specs.Rules.{offsetRules};
 ghost use Rattle.lent.specs.Lists.{Written, Answers};
-ghost use Rattle.cursor.specs.Context.{contextRow};
+ghost use Rattle.contexts.specs.Context.{contextRow};
 ghost use Rattle.cursors.specs.Cursors.{contextsAt};
 ghost use Rattle.cursors.specs.inner.Ready.{Ready};
 

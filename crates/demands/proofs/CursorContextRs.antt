@@ -29,19 +29,19 @@ use Rattle.tokens.specs.declared.last_token.Name.{Name}
 use Rattle.tokens.specs.declared.last_token.Name.the-variants.{Nameless, Named}
 use Rattle.tokens.specs.declared.last_token.LastTwo.{LastTwo}
 use Rattle.tokens.specs.declared.function.Arguments.{Arguments}
-use Rattle.cursor.specs.declared.trailing.Clause.{Clause}
-use Rattle.cursor.specs.declared.trailing.Clause.the-variants.{NoClause, Ends}
-use Rattle.cursor.specs.declared.context.Answer.{Answer}
-use Rattle.cursor.specs.declared.context.Answer.the-variants.{GoOn, Given}
+use Rattle.contexts.specs.declared.trailing.Clause.{Clause}
+use Rattle.contexts.specs.declared.trailing.Clause.the-variants.{NoClause, Ends}
+use Rattle.contexts.specs.declared.context.Answer.{Answer}
+use Rattle.contexts.specs.declared.context.Answer.the-variants.{GoOn, Given}
 use Rattle.path.specs.declared.gathered.Next.{Next}
 use Rattle.path.specs.declared.gathered.Next.the-variants.{Deepest, Above}
-use Rattle.cursor.specs.declared.context.CursorContext.{CursorContext}
-use Rattle.cursor.specs.declared.context.CursorContext.the-variants.{SelectExpression, TableReference, Expression, SettingName, EngineName, FormatName, DataType, CodecName, StatementStart}
+use Rattle.contexts.specs.declared.context.CursorContext.{CursorContext}
+use Rattle.contexts.specs.declared.context.CursorContext.the-variants.{SelectExpression, TableReference, Expression, SettingName, EngineName, FormatName, DataType, CodecName, StatementStart}
 use Rattle.path.specs.Path.{pathAt, oneOf, deepestOr, deepest, onPath, trails, nextOf, isDeepest, deepestOver}
 use Rattle.tokens.specs.LastToken.{named, counted, entered, reading, lastOr, init, lastTwo, isText, dot, dotted, isJoinWord, isWord as isWordIn}
 use Rattle.tokens.specs.Function.{bareWordIn, orName, functionName, opens, argued, arguments}
-use Rattle.cursor.specs.Trailing.{lastClause as lastClauseIn, pastClause as pastKind, pastEnd, trailingIn, trailingRule}
-use Rattle.cursor.specs.PathRules.{Seen, tableReference, joined, functionArgument, columnOr, column, pathRules, ruled, elseAsk, seen, byPath, pathRule}
+use Rattle.contexts.specs.Trailing.{lastClause as lastClauseIn, pastClause as pastKind, pastEnd, trailingIn, trailingRule}
+use Rattle.contexts.specs.PathRules.{Seen, tableReference, joined, functionArgument, columnOr, column, pathRules, ruled, elseAsk, seen, byPath, pathRule}
 use Rattle.cursor.specs.CursorContext.{startsAfter, lastRule, givenOr, contextAt}
 use Rattle.demands.specs.Rust.{push, find}
 use Rattle.demands.specs.CursorContextRs.{textOf, returnOr, PathNode, descend, «find_node_path», Before, skipped, «token_before_impl», «token_before_offset», textIs, saysWord, Prev, «find_ident_before_dot_impl», beforeDot, «find_identifier_before_dot», «table_ref_or_dot», columnOf, «check_dot_access», firstBareWord, «extract_function_name», Commas, «count_commas_impl», «count_commas_before», isStatementLike, clauseBefore, trailing, clauseGives, trailingOf, «check_trailing_clause», isLast, isLastOr, met, joinArm, arm, ancestors, startsNext, fallback, «analyze_path», «cursor_context», textName, CursorContextRs}

@@ -11,8 +11,8 @@ use Rattle.table.specs.Table.{count}
 use Rattle.lent.specs.Lists.{rowBytes, listBytes}
 use Rattle.table.specs.Exactly.{Broken}
 use Rattle.lent.proofs.Writes.{length-row}
-use Rattle.cursor.specs.declared.context.CursorContext.{CursorContext as Typed}
-use Rattle.cursor.specs.Context.{contextRow}
+use Rattle.contexts.specs.declared.context.CursorContext.{CursorContext as Typed}
+use Rattle.contexts.specs.Context.{contextRow}
 use Rattle.cursor.specs.CursorContext.{contextAt}
 use Rattle.cursors.specs.Cursors.{offsetsOf, contextsAt}
 use Rattle.replies.specs.Reply.{packed, answered}

@@ -14,7 +14,7 @@ use Rattle.scope.specs.Scope.{withNames, tableAliases, columnAliases, tableRefs
 use Rattle.names.specs.Bindings.{bindingRow}
 use Rattle.tables.specs.Tables.{referenceRow}
 use Rattle.statement.specs.Statement.{enclosingAt}
-use Rattle.cursor.specs.Context.{contextRow}
+use Rattle.contexts.specs.Context.{contextRow}
 use Rattle.cursor.specs.CursorContext.{contextAt}
 use Rattle.cursors.specs.Cursors.{contextsAt}
 use Rattle.cursor_root.specs.Root.{rootAt}

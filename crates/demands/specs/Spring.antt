@@ -26,10 +26,10 @@ use Rattle.roots.specs.Nearest.{OneRoot, DeepestQuery, TableAliasOf, ColumnAlia
 use Rattle.statement.specs.Statement.{orElse, firstFind, enclosingAt}
 use Rattle.path.specs.Path.{isSubquery, deepestOr, onPath, nextOf}
 use Rattle.tokens.specs.LastToken.{lastOr, init, lastTwo, isText, dotted}
-use Rattle.cursor.specs.Trailing.{lastClause, pastClause, pastEnd, trailingIn}
-use Rattle.cursor.specs.PathRules.{columnOr, column, pathRules, ruled, elseAsk as either, byPath}
+use Rattle.contexts.specs.Trailing.{lastClause, pastClause, pastEnd, trailingIn}
+use Rattle.contexts.specs.PathRules.{columnOr, column, pathRules, ruled, elseAsk as either, byPath}
 use Rattle.cursor.specs.CursorContext.{lastRule, givenOr, contextAt}
-use Rattle.cursor.specs.Context.{rangeOf, coded, contextRow}
+use Rattle.contexts.specs.Context.{rangeOf, coded, contextRow}
 use Rattle.cursor_root.specs.Root.{statementOr, rootOf, rootAt}
 use Rattle.forest.specs.Above.{aboveAmong}
 use Rattle.offers.specs.Enclosing.{queries, someQuery, beyond, statementAmong, lastRoot, rootsAmong, enclosingRoots}

@@ -1,5 +1,5 @@
 // The questions at an offset, for C: the context, that of many offsets at once, the enclosing statement, the cursor's root and its four lists.
-use cursor::context::ContextReply;
+use contexts::context::ContextReply;
 use cursor::cursor_context::cursor_context;
 use cursor_root::root::cursor_root;
 use cursors::cursors::cursor_contexts;
@@ -21,7 +21,7 @@ ghost use Rattle.names.specs.Bindings.{bindingRow};
 ghost use Rattle.tables.specs.Tables.{referenceRow};
 ghost use Rattle.scope.specs.Scope.{tableAliases, columnAliases, tableRefs};
 ghost use Rattle.statement.specs.Statement.{enclosingAt, statementReply};
-ghost use Rattle.cursor.specs.Context.{contextRow};
+ghost use Rattle.contexts.specs.Context.{contextRow};
 ghost use Rattle.cursor.specs.CursorContext.{contextAt};
 ghost use Rattle.cursors.specs.Cursors.{contextsAt};
 ghost use Rattle.cursor_root.specs.Root.{rootAt, rootReply};

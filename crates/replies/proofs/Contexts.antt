@@ -10,9 +10,9 @@ use Rattle.table.specs.Rules.{rules, verdict}
 use Rattle.lent.specs.Verdicts.{first}
 use Rattle.lent.specs.Lists.{listed, lent}
 use Rattle.lent.proofs.Writes.{list-refused, list-admitted}
-use Rattle.cursor.specs.declared.context.CursorContext.{CursorContext}
-use Rattle.cursor.specs.declared.context.ContextReply.the-variants.{Context, Refused as Denied}
-use Rattle.cursor.specs.Context.{contextRow}
+use Rattle.contexts.specs.declared.context.CursorContext.{CursorContext}
+use Rattle.contexts.specs.declared.context.ContextReply.the-variants.{Context, Refused as Denied}
+use Rattle.contexts.specs.Context.{contextRow}
 use Rattle.cursor.specs.CursorContext.{contextReply}
 use Rattle.cursor.proofs.Replies.{refused-is, given-is}
 

@@ -2,8 +2,8 @@
 // the answer. A context is an entry besides.
 use brackets::bracket_matching::Hint;
 use brackets::bracket_matching::HintReply;
-use cursor::context::CursorContext;
-use cursor::context::code_of;
+use contexts::context::CursorContext;
+use contexts::context::code_of;
 use cursor_root::root::RootReply;
 use lent::list::Listed;
 use lent::list::put_entry;
@@ -16,7 +16,7 @@ use table::range::ABSENT;
 ghost use mathlib.Core.Path.{_≡_};
 ghost use mathlib.Core.List.{[], _∷_};
 ghost use Rattle.lent.specs.Lists.{Answers};
-ghost use Rattle.cursor.specs.Context.{contextRow};
+ghost use Rattle.contexts.specs.Context.{contextRow};
 ghost use Rattle.replies.specs.Reply.{packed, verdictReply, listReply, hintRecord, hintReply, statementNumber, rootNumber};
 
 // How many values a half of a reply has.

@@ -19,9 +19,9 @@ use Rattle.brackets.specs.Brackets.{openerRow as openerRow, openersLeft}
 use Rattle.tables.specs.Tables.{referenceRow}
 use Rattle.scope.specs.Scope.{tableRefs}
 use Rattle.statement.specs.Statement.{enclosingAt}
-use Rattle.cursor.specs.declared.context.CursorContext.{CursorContext}
+use Rattle.contexts.specs.declared.context.CursorContext.{CursorContext}
 use Rattle.cursor.specs.CursorContext.{contextAt}
-use Rattle.cursor.specs.Context.{coded}
+use Rattle.contexts.specs.Context.{coded}
 use Rattle.lines.specs.Lines.{lf}
 use Rattle.lent.specs.Numbers.{wordLimit}
 use Rattle.table.specs.Ranges.{absentNumber}

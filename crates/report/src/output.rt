@@ -1,8 +1,8 @@
 // The answers to a frame as text.
 use brackets::bracket_matching::openers_left;
-use cursor::context::ContextReply;
-use cursor::context::CursorContext;
-use cursor::context::code_of;
+use contexts::context::ContextReply;
+use contexts::context::CursorContext;
+use contexts::context::code_of;
 use cursor::cursor_context::cursor_context;
 use lent::list::Listed;
 use lent::number::NUMBER_BYTES;

@@ -15,11 +15,11 @@ use Rattle.table.specs.declared.range.Range.{Range}
 use Rattle.path.specs.Path.{deepestOr, onPath, nextOf, isDeepest, deepestOver}
 use Rattle.tokens.specs.LastToken.{lastOr, init, lastTwo, isText, isWord, dotted, isJoinWord}
 use Rattle.tokens.specs.Function.{bareWordIn, orName, functionName, argued, arguments}
-use Rattle.cursor.specs.Trailing.{lastClause, pastClause, pastEnd, trailingIn}
-use Rattle.cursor.specs.PathRules.{tableReference, joined, functionArgument, columnOr, column, pathRules, ruled, elseAsk, byPath}
-use Rattle.cursor.specs.declared.context.Coded.{Coded}
+use Rattle.contexts.specs.Trailing.{lastClause, pastClause, pastEnd, trailingIn}
+use Rattle.contexts.specs.PathRules.{tableReference, joined, functionArgument, columnOr, column, pathRules, ruled, elseAsk, byPath}
+use Rattle.contexts.specs.declared.context.Coded.{Coded}
 use Rattle.cursor.specs.CursorContext.{startsAfter, lastRule, givenOr, contextAt}
-use Rattle.cursor.specs.Context.{rangeOf, referenceNumber, coded}
+use Rattle.contexts.specs.Context.{rangeOf, referenceNumber, coded}
 
 -- ---- a case: a source, a table, an offset; the context's number, the name's range, the argument's index
 

@@ -27,10 +27,10 @@ use Rattle.statement.specs.Statement.{orElse, firstFind, enclosingAt}
 use Rattle.path.specs.Path.{deepestOr, onPath, nextOf, isDeepest, deepestOver}
 use Rattle.tokens.specs.LastToken.{lastOr, init, lastTwo, isText, isWord, dotted, isJoinWord}
 use Rattle.tokens.specs.Function.{bareWordIn, orName, functionName, argued, arguments}
-use Rattle.cursor.specs.Trailing.{lastClause, pastClause, pastEnd, trailingIn}
-use Rattle.cursor.specs.PathRules.{tableReference, joined, functionArgument, columnOr, column, pathRules, ruled, elseAsk, byPath}
+use Rattle.contexts.specs.Trailing.{lastClause, pastClause, pastEnd, trailingIn}
+use Rattle.contexts.specs.PathRules.{tableReference, joined, functionArgument, columnOr, column, pathRules, ruled, elseAsk, byPath}
 use Rattle.cursor.specs.CursorContext.{startsAfter, lastRule, givenOr, contextAt}
-use Rattle.cursor.specs.Context.{rangeOf, referenceNumber, coded}
+use Rattle.contexts.specs.Context.{rangeOf, referenceNumber, coded}
 use Rattle.lines.specs.Lines.{lf, begun, lines, isDigit, value, allDigits, isHex, isSource, isNumbers, faulty, recordRules}
 use Rattle.lines.specs.Frame.{spelt, pairs, firstBytes, fieldsOf}
 use Rattle.report.specs.Output.{digits, decimal, range, fields, ranges, printed, printedList, contextLine, statementLine, answerText, questionVerdict, unlessRefused}

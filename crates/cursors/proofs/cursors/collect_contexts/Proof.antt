@@ -1,7 +1,7 @@
 use Rattle.cursors.proofs.CursorsLaws.{Taking, taking-start, taking-step, taking-end}
 use Rattle.cursors.proofs.BegunLaws.{begun-first}
 use Rattle.cursors.specs.inner.Ready.{Begun}
-use Rattle.cursor.specs.Context.{coded}
+use Rattle.contexts.specs.Context.{coded}
 use Rattle.table.specs.Rules.{mostOffsets, offsetBytes}
 use lib.ListN.{length}
 use borrow.Author.Needs.{needs}

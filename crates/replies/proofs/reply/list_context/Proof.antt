@@ -1,4 +1,4 @@
-use Rattle.cursor.specs.Context.{contextRow}
+use Rattle.contexts.specs.Context.{contextRow}
 use Rattle.lent.proofs.Writes.{written-one, length-wide, list-short, list-filled}
 use mathlib.Core.Path.{refl, sym}
 use mathlib.Core.List.{[], _∷_}
