@@ -1,6 +1,6 @@
 // The contexts at all cursors of a shared page (document 02, §2): one call, one check, and record 0's children read once for all.
-use contexts::context::code_of;
 use crate::starts::begin_all;
+use contexts::context::code_of;
 use cursor::cursor_context::context_from;
 use forest::stretch::child_from;
 use lent::list::Listed;

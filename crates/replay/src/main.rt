@@ -2,9 +2,9 @@
 // numbers of eight hexadecimal digits, the bytes of the input and those of the answer, then LF, the input and the answer.
 use frame::TEXT_ROOM;
 use frame::glance;
+use lent::text::same;
 use libc::STDIN_FILENO;
 use libc::STDOUT_FILENO;
-use lent::text::same;
 use lines::input::number;
 
 // How many bytes stand before a frame's input.

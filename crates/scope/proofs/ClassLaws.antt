@@ -1,19 +1,19 @@
 -- What the entry of a token, and a turn of the walk, add to the list.
 -- Assumes nothing.
-use Prim.Native.Nat.{ℕ, _+_, _*_, _<_}
+use Prim.Native.Nat.{ℕ, _+_, _*_, _≤_, _<_}
 use mathlib.Core.Path.{_≡_, refl, sym, _∙_}
-use mathlib.Core.List.{List, [], _∷_, _++_}
-use borrow.Author.Tests.{eq-eqb, ne-eqb}
-use lib.ListN.{drop}
-use Rattle.table.specs.Table.{recordBytes, count, kindAt, startAt, endAt, recordAt}
-use Rattle.forest.specs.Forest.{Forest, nil, token, node}
+use mathlib.Core.List.{List, [], _∷_, _++_, append-nil}
+use native.Mathlib.Numerals.{add-one}
+use borrow.Author.Tests.{eq-eqb, ne-eqb, le-leb, lt-leb}
+use Rattle.table.specs.Kinds.{lastNode}
+use Rattle.table.specs.Table.{kindAt, startAt, endAt, parentAt}
 use Rattle.lent.specs.Numbers.{numberBytes}
 use Rattle.lent.specs.Lists.{put, Written}
-use Rattle.forest.proofs.Visits.{rest-kind}
-use Rattle.lent.proofs.Writes.{written-none, written-one}
+use Rattle.lent.proofs.Writes.{written-none, written-one, written-then}
 use Rattle.classes.specs.declared.token_class.TokenClass.{TokenClass}
 use Rattle.classes.specs.TokenClass.{classOf, numberOf}
-use Rattle.scope.specs.Classes.{entryOf, classRow, classes}
+use Rattle.scope.specs.Classes.{entryOf, classRow}
+use Rattle.scope.specs.inner.Carried.{givenAt, givenBelow}
 
 -- ---- its entry
 module _ (c : TokenClass) (a b : ℕ) {n : ℕ} (e : n ≡ numberOf c) (out : List ℕ) (at : ℕ) where
@@ -26,17 +26,28 @@ module _ (c : TokenClass) (a b : ℕ) {n : ℕ} (e : n ≡ numberOf c) (out : Li
   class-some h q r = rw (ne-eqb (numberOf c) 10 (λ z. h (e ∙ z))) (written-one classRow (record { start = a; end = b; class = numberOf c }) out at (rw e at q) r)
 
 -- ---- what a turn of the walk adds
-pub class-nil : (source : List ℕ) (p : ℕ) → classes source p nil ≡ []
-unfolding classes
-class-nil source p = refl
+pub below-next : (source t : List ℕ) (i : ℕ) → givenBelow source t (i + 1) ≡ givenBelow source t i ++ givenAt source t i
+unfolding givenBelow
+below-next source t i = rw add-one
 
-module _ (source s : List ℕ) (base i : ℕ) where
-  pub class-token : {c : TokenClass} {p k a b : ℕ} → c ≡ classOf source p k a b → p ≡ kindAt s 0 → k ≡ kindAt s i → a ≡ startAt s i → b ≡ endAt s i
-      → (f : Forest) → classes source (kindAt s 0) (token (recordAt s base i) f) ≡ entryOf c a b ++ classes source (kindAt s 0) f
-  unfolding classes recordAt
-  class-token e p k a b f = rw (e, p, k, a, b)
+at-node : (source t : List ℕ) (i : ℕ) → kindAt t i ≤ lastNode → givenAt source t i ≡ []
+unfolding givenAt
+at-node source t i h = rw (le-leb (kindAt t i) lastNode h)
 
-  pub class-node : {p : List ℕ} (q : ℕ) → i < count s → p ≡ drop (recordBytes * i) s
-      → (below f : Forest) → classes source q (node (recordAt s base i) below f) ≡ classes source (kindAt p 0) below ++ classes source q f
-  unfolding classes recordAt
-  class-node q h e below f = rw (e, rest-kind s i h)
+at-token : (source t : List ℕ) (i : ℕ) → lastNode < kindAt t i
+    → givenAt source t i ≡ entryOf (classOf source (kindAt t (parentAt t i)) (kindAt t i) (startAt t i) (endAt t i)) (startAt t i) (endAt t i)
+unfolding givenAt
+at-token source t i h = rw (lt-leb (kindAt t i) lastNode h)
+
+module _ (source t out : List ℕ) where
+  pub class-start : Written classRow (givenBelow source t 0) out 0 out 0
+  unfolding givenBelow
+  class-start = written-none classRow out 0
+
+  module _ (i : ℕ) {next : ℕ} {out′ : List ℕ} (w : Written classRow (givenBelow source t i) out 0 out′ next) where
+    pub class-over : kindAt t i ≤ lastNode → Written classRow (givenBelow source t (i + 1)) out 0 out′ next
+    class-over h = rw (below-next source t i, at-node source t i h, append-nil (givenBelow source t i)) w
+
+    pub class-put : {k a b u p next′ : ℕ} {c : TokenClass} {out″ : List ℕ} → c ≡ classOf source p k a b → p ≡ kindAt t u → u ≡ parentAt t i → k ≡ kindAt t i → a ≡ startAt t i → b ≡ endAt t i
+        → lastNode < k → Written classRow (entryOf c a b) out′ next out″ next′ → Written classRow (givenBelow source t (i + 1)) out 0 out″ next′
+    class-put c p u k a b h v = rw (below-next source t i, at-token source t i (rw k at h)) (written-then classRow w (rw (c, p, u, k, a, b) at v))

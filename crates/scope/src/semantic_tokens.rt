@@ -3,8 +3,6 @@ use classes::token_class::TokenClass;
 use classes::token_class::UNCLASSED;
 use classes::token_class::classify_token;
 use classes::token_class::number_of;
-use forest::stretch::level_from;
-use forest::stretch::rest_from;
 use keywords::keywords::KEYWORDS;
 use keywords::keywords::STARTS;
 use keywords::keywords::Starts;
@@ -16,32 +14,26 @@ use lent::verdict::Verdict;
 use table::check::check;
 use table::kinds::LAST_NODE;
 use table::record::count_of;
-use table::record::depth_at;
 use table::record::end_at;
 use table::record::kind_at;
+use table::record::parent_at;
 use table::record::start_at;
 ghost use mathlib.Core.Path.{_≡_};
 ghost use mathlib.Core.List.{[]};
-ghost use Prim.Native.Nat.{ℕ, _+_, _*_, _≤_, _<_};
+ghost use Prim.Native.Nat.{_+_, _*_, _≤_, _<_};
 ghost use lib.ListN.{length};
-ghost use Rattle.table.specs.Table.{count, records, kindAt};
-ghost use Rattle.forest.specs.Forest.{kids, stretchEnd};
+ghost use Rattle.table.specs.Table.{count};
 ghost use Rattle.table.specs.Rules.{mostRecords, rules};
 ghost use Rattle.lent.specs.Lists.{farthest, listBytes, Written, Answers};
 ghost use Rattle.keywords.specs.inner.KeywordTable.{Lent};
-ghost use Rattle.scope.specs.Classes.{classRow, entryBytes, entryOf, classes, classesOf};
+ghost use Rattle.scope.specs.Classes.{classRow, entryBytes, entryOf, classesOf};
+ghost use Rattle.scope.specs.inner.Carried.{Carries};
 
 // An entry of the list: where a token stands, and the number of its class.
 pub struct ClassedToken {
     pub start: usize,
     pub end: usize,
     pub class: usize,
-}
-
-// How far a walk is: the byte of the next entry, and how many records the walk looked at.
-pub struct Walked {
-    pub at: usize,
-    pub used: usize,
 }
 
 // How many bytes an entry takes: three numbers.
@@ -59,54 +51,47 @@ fn put_class(out: &mut [u8], at: usize, c: TokenClass, start: usize, end: usize)
     put_entry(out, at, &[start, end, class])
 }
 
-// Writes the classed tokens below the first record of s, which is the rest of the table from a node on, from byte `at` on.
+// Writes the classed tokens of a table from out's first byte on, record by record: a token's direct parent is the record whose number it carries. Returns how
+// many bytes the list takes.
 fn collect_tokens(
     words: &[u8],
     starts: &Starts,
-    s: &[u8],
+    table: &[u8],
     source: &[u8],
     out: &mut [u8],
-    at: usize,
-) -> Walked
-    requires { ⌜ Lent (now words) (now starts) × (0 < count (now s)) × (at + entryBytes * count (now s) < farthest) ⌝ }
-    ensures { λ r. ⌜ ((base : ℕ) → Written classRow (classes (now (source .entry)) (kindAt (now (s .entry)) 0)
-        (kids (records base (now (s .entry))))) (now (out .entry)) at (now (out .exit)) (r .at))
-        × (r .used ≡ stretchEnd (now (s .entry)) 0) × (r .used ≤ count (now (s .entry))) × (1 ≤ r .used) × (r .at ≤ at + entryBytes * r .used) ⌝ }
+) -> usize
+    requires { ⌜ Lent (now words) (now starts) × (count (now table) ≤ mostRecords) × Carries (now table) ⌝ }
+    ensures { λ r. ⌜ Written classRow (classesOf (now (source .entry)) (now (table .entry))) (now (out .entry)) 0 (now (out .exit)) r
+        × (r ≤ entryBytes * count (now (table .entry))) ⌝ }
 {
-    let m = count_of(s);
-    let parent = kind_at(s, 0);
-    let k = depth_at(s, 0) + 1;
-    let mut next = at;
-    let mut i = level_from(s, k, 1);
+    let m = count_of(table);
+    let mut next = 0;
+    let mut i = 0;
     while i < m {
-        if depth_at(s, i) < k {
-            return Walked { at: next, used: i };
-        }
-        let kind = kind_at(s, i);
+        let kind = kind_at(table, i);
         if kind <= LAST_NODE {
-            let w = collect_tokens(words, starts, rest_from(s, i), source, out, next);
-            next = w.at;
-            i = i + w.used;
+            i += 1;
         } else {
-            let start = start_at(s, i);
-            let end = end_at(s, i);
+            let start = start_at(table, i);
+            let end = end_at(table, i);
+            let above = parent_at(table, i);
+            let parent = kind_at(table, above);
             let c = classify_token(words, starts, kind, start, end, source, parent);
             next = put_class(out, next, c, start, end);
-            i = level_from(s, k, i + 1);
+            i += 1;
         }
     }
-    Walked { at: next, used: i }
+    next
 }
 
 // How many bytes the list takes.
 fn class_bytes(words: &[u8], starts: &Starts, table: &[u8], source: &[u8]) -> usize
-    requires { ⌜ Lent (now words) (now starts) × (0 < count (now table)) × (count (now table) ≤ mostRecords) ⌝ }
+    requires { ⌜ Lent (now words) (now starts) × (count (now table) ≤ mostRecords) × Carries (now table) ⌝ }
     ensures { λ r. ⌜ (r ≡ length (listBytes classRow (classesOf (now (source .entry)) (now (table .entry)))))
         × (r ≤ entryBytes * count (now (table .entry))) ⌝ }
 {
     let mut none = [0u8; 0];
-    let w = collect_tokens(words, starts, table, source, &mut none, 0);
-    w.at
+    collect_tokens(words, starts, table, source, &mut none)
 }
 
 // Lists the classes of a table that is admitted. It counts first only where there may be too little room.
@@ -117,7 +102,7 @@ fn list_classes(
     source: &[u8],
     out: &mut [u8],
 ) -> Listed
-    requires { ⌜ Lent (now words) (now starts) × (0 < count (now table)) × (count (now table) ≤ mostRecords) ⌝ }
+    requires { ⌜ Lent (now words) (now starts) × (count (now table) ≤ mostRecords) × Carries (now table) ⌝ }
     ensures { λ r. ⌜ Answers [] classRow
         (classesOf (now (source .entry)) (now (table .entry))) (now (out .entry)) r (now (out .exit)) ⌝ }
 {
@@ -128,8 +113,8 @@ fn list_classes(
             return Listed::Refused(NO_ROOM, (needed / ENTRY_BYTES) as u32);
         }
     }
-    let w = collect_tokens(words, starts, table, source, out, 0);
-    Listed::Entries((w.at / ENTRY_BYTES) as u32)
+    let size = collect_tokens(words, starts, table, source, out);
+    Listed::Entries((size / ENTRY_BYTES) as u32)
 }
 
 // The question: start, end and class of every classed token, in order.

@@ -9,4 +9,4 @@ class-bytes-spec =
     (tie.spec
     (λ c. search needs)  -- slice-aggregate-collect-tokens
     (λ c κs. search needs)  -- collect-tokens-requires
-    (λ c. (omega (arith, c .before .collect-tokens .ensures .0 0 .next), omega arith)))  -- returns
+    (λ c. (omega (arith, c .before .collect-tokens .ensures .0 .next), omega arith)))  -- returns

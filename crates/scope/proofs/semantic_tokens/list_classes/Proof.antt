@@ -20,4 +20,4 @@ list-classes-spec =
     (λ c κs. search needs)  -- collect-tokens-requires
     (λ c. search needs)  -- cast-t17
     (λ c. search needs)  -- same-length
-    (λ c. list-filled classRow 12 (λ e. refl) (omega arith) [] _ _ refl (c .before .before .before .collect-tokens .ensures .0 0) (⊎-elim (λ w. omega (arith, c .before .before .before .collect-tokens .ensures .0 0 .next)) (λ w. omega (arith, c .before .before .before .collect-tokens .ensures .0 0 .next)) (c .before .before .before .before .before .if1 .came))))  -- returns-2
+    (λ c. list-filled classRow 12 (λ e. refl) (omega arith) [] _ _ refl (c .before .before .collect-tokens .ensures .0) (⊎-elim (λ w. omega (arith, c .before .before .collect-tokens .ensures .0 .next)) (λ w. omega (arith, c .before .before .collect-tokens .ensures .0 .next)) (c .before .before .before .before .if1 .came))))  -- returns-2

@@ -2,6 +2,7 @@ use Rattle.scope.specs.Classes.{classRow}
 use Rattle.keywords.specs.inner.KeywordTable.{keywordBytes}
 use Rattle.keywords.specs.Keywords.{keywords}
 use Rattle.forest.proofs.Sense.{admitted-tidy}
+use Rattle.scope.proofs.Carried.{admitted-carries}
 use Rattle.table.proofs.Checks.{rules-refused, rules-passed}
 use Rattle.lent.proofs.Writes.{list-refused, list-admitted}
 use Rattle.lent.specs.Text.{bytesOf}
@@ -21,7 +22,10 @@ token-classes-spec =
     (λ c. search needs)  -- enum-known-k
     (λ c. search needs)  -- enum-told
     (λ c. search needs)  -- slice-aggregate-list-classes
-    (λ c κs. let w = admitted-tidy _ _ 0 (sym (c .before .before .before .before .before .check .ensures) ∙ c .before .before .before .enum-told .given .1) in (record { bytes = refl; places = refl }, w .some, w .few))  -- list-classes-requires
+    (λ c κs.
+    let checked = c .before .before .before .before .before .check .ensures in
+    let admitted = c .before .before .before .enum-told .given .1 in
+    (record { bytes = refl; places = refl }, admitted-tidy _ _ 0 (sym checked ∙ admitted) .few, admitted-carries _ _ checked admitted))  -- list-classes-requires
     (λ c. list-refused classRow _ _ _ (rules-refused _ _ _ (c .before .before .before .check .ensures) (c .before .k .given .1)))  -- returns
     (λ c. search needs)  -- same-length
     (λ c. list-admitted classRow _ _ _ (rules-passed _ _ _ (c .before .before .before .before .before .before .before .before .check .ensures) (c .before .before .before .before .before .before .enum-told .given .1)) (c .before .before .list-classes .ensures)))  -- returns-2
