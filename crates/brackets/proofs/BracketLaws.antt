@@ -2,17 +2,17 @@
 -- Assumes nothing.
 use Prim.Native.Nat.{ℕ, zero, suc, _+_, _-_, _*_, _/_, _%_, _≤_, _<_}
 use mathlib.Core.Path.{_≡_, refl, sym, ap, _∙_}
-use mathlib.Core.Bool.{Bool, true, false, cond, _&&_, _||_}
+use mathlib.Core.Bool.{Bool, true, false, cond, _||_}
 use mathlib.Core.List.{List, [], _∷_, _++_, map, map-append, append-nil, reverse, reverseAux, reverseAux-eq}
 use mathlib.Core.Logic.{⊎-elim, _↔_}
 use native.Mathlib.Omega.{arith}
 use native.Mathlib.Numerals.{add-one}
 use borrow.Author.Tests.{le-leb, lt-leb, eq-eqb, ne-eqb, eqb-true}
-use lib.Dec.{eqb, leb}
+use lib.Dec.{eqb}
 use lib.ListN.{length, getD, set, take, drop, length-take, length-drop, length-map, take-append-drop}
 use lib.Seq.{getD-set-same, getD-set-other, take-suc, take-all, take-length, take-append-le, length-take-le}
 use Rattle.table.specs.declared.record.Rec.{Rec}
-use Rattle.table.specs.Table.{recordBytes, count, kindAt, recordAt, records}
+use Rattle.table.specs.Table.{records}
 use Rattle.forest.specs.Forest.{Forest, nil, token, node, kids}
 use Rattle.lent.specs.declared.verdict.Verdict.{Verdict}
 use Rattle.lent.specs.declared.verdict.Verdict.the-variants.{Admitted, Refused}
@@ -24,7 +24,7 @@ use Rattle.lent.specs.Text.{same}
 use Rattle.lent.proofs.Cases.{lt-or-le, eq-or-not, both}
 use Rattle.lent.proofs.Texts.{differ}
 use Rattle.lent.proofs.Writes.{written-none, written-one, written-then, length-wide, list-filled, list-short}
-use Rattle.brackets.specs.Brackets.{isOpener, isCloser, fits, closed, stackStep, left, stackLeft, indexOf, openersLeft, openerRow, holding, lastOpener, hintOf, hinted, StandsIn}
+use Rattle.brackets.specs.Brackets.{fits, closed, stackStep, left, stackLeft, indexOf, openersLeft, openerRow, holding, lastOpener, hintOf, hinted, StandsIn}
 use Rattle.brackets.specs.inner.BracketStack.{stacked, unpacked, stackOf, closedBy, steppedBy, leftBy, lastBy, hintBy}
 use Rattle.brackets.specs.declared.bracket_matching.Hint.{Hint}
 use Rattle.brackets.specs.declared.bracket_matching.Hint.the-variants.{Opener, NoOpener}
@@ -76,22 +76,6 @@ module _ (array : List ℕ) (n k i : ℕ) where
     pub step-drop : 0 < n → (getD array (n - 1) 0 % 4 ≡ k - 140 → ⊥) → stackOf array n ≡ steppedBy (stackOf array n) k i
     unfolding closedBy
     step-drop p e = rw (closes (stackOf array n), stack-top array n p, ne-eqb (getD array (n - 1) 0 % 4) (k - 140) e)
-
--- ---- what a turn of the walk does
-
-module _ (s : List ℕ) (base i : ℕ) where
-  pub left-token : (st : List ℕ) {st′ : List ℕ} {k j : ℕ} → st′ ≡ steppedBy st k j → k ≡ kindAt s i → j ≡ base + i
-      → (f : Forest) → leftBy st (token (recordAt s base i) f) ≡ leftBy st′ f
-  unfolding leftBy recordAt
-  left-token st e k j f = rw (e, k, j)
-
-  pub left-node : (st : List ℕ) {st′ : List ℕ} (below f : Forest) → st′ ≡ leftBy st below → leftBy st (node (recordAt s base i) below f) ≡ leftBy st′ f
-  unfolding leftBy
-  left-node st below f e = rw e
-
-pub left-nil : (st : List ℕ) → leftBy st nil ≡ st
-unfolding leftBy
-left-nil st = refl
 
 -- ---- the array's stack is the definition's
 
@@ -292,10 +276,6 @@ module _ (w m : List ℕ) {t : Bool} (e : t ≡ holding w m) where
         ∙ rw (← q, y) (ap (holding w) (sym (take-all (length m - 1) (drop 1 m) (rw (length-drop 1 m) (omega arith)))))
 
 -- ---- the questions, from what the walk left in the array
-
-pub from-empty : (array : List ℕ) (f : Forest) {st : List ℕ} → st ≡ leftBy (stackOf array 0) f → st ≡ leftBy [] f
-unfolding stackOf
-from-empty array f e = e
 
 module _ (t array out : List ℕ) (n : ℕ) (e : stackOf array n ≡ leftBy [] (kids (records 0 t))) (h : n ≤ length array) where
   fours : 4 * n / 4 ≡ n

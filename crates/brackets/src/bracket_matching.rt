@@ -1,6 +1,5 @@
 // Bracket matching: which openers are left, and which of them a message speaks of.
-use forest::stretch::level_from;
-use forest::stretch::rest_from;
+use forest::stretch::stretch_of;
 use lent::list::Listed;
 use lent::list::put_entry;
 use lent::number::NUMBER_BYTES;
@@ -12,28 +11,20 @@ use table::check::check;
 use table::check::check_message;
 use table::kinds::CLOSING_CURLY;
 use table::kinds::CLOSING_ROUND;
-use table::kinds::LAST_NODE;
 use table::kinds::OPENING_CURLY;
 use table::kinds::OPENING_ROUND;
 use table::record::count_of;
-use table::record::depth_at;
 use table::record::kind_at;
 ghost use mathlib.Core.Path.{_≡_};
 ghost use mathlib.Core.List.{[], map};
 ghost use Prim.Native.Nat.{_+_, _*_, _≤_, _<_};
 ghost use lib.ListN.{length, take};
 ghost use Rattle.table.specs.Table.{count, records};
-ghost use Rattle.forest.specs.Forest.{kids, stretchEnd};
+ghost use Rattle.forest.specs.Forest.{kids};
 ghost use Rattle.table.specs.Rules.{mostRecords, rules, verdict};
 ghost use Rattle.lent.specs.Lists.{Written, Answers};
 ghost use Rattle.brackets.specs.Brackets.{openerRow, stackLeft, openersLeft, holding, hintOf, hinted};
-ghost use Rattle.brackets.specs.inner.BracketStack.{stackOf, steppedBy, leftBy, unpacked, lastBy, hintBy};
-
-// The reply of a stack walk: how many openers are on the stack, and how many records the walk looked at.
-pub struct Stacked {
-    pub top: usize,
-    pub used: usize,
-}
+ghost use Rattle.brackets.specs.inner.BracketStack.{stackOf, steppedBy, steppedOver, leftBy, Stacks, unpacked, lastBy, hintBy};
 
 // The opener that a message speaks of.
 pub enum Hint {
@@ -74,31 +65,36 @@ fn stack_step(stack: &mut [u16], n: usize, kind: usize, number: usize) -> usize
     }
 }
 
-// Takes the tokens below the first record of s, which is the rest of the table from a node on and has the number base.
-fn collect_brackets(s: &[u8], base: usize, stack: &mut [u16], n: usize) -> Stacked
-    requires { ⌜ (0 < count (now s)) × (n ≤ base) × (base + count (now s) ≤ mostRecords) × (mostRecords ≤ length (now stack)) ⌝ }
-    ensures { λ r. ⌜ (stackOf (now (stack .exit)) (r .top) ≡ leftBy (stackOf (now (stack .entry)) n) (kids (records base (now (s .entry)))))
-        × (r .used ≡ stretchEnd (now (s .entry)) 0) × (r .used ≤ count (now (s .entry))) × (1 ≤ r .used) × (r .top < base + r .used) ⌝ }
+// Takes the records of s, a part of the table from record `base` on, one after the other; a node does nothing to the stack. Returns how many are on it.
+fn collect_brackets(s: &[u8], base: usize, stack: &mut [u16], n: usize) -> usize
+    requires { ⌜ (n ≤ base) × (base + count (now s) ≤ mostRecords) × (mostRecords ≤ length (now stack)) ⌝ }
+    ensures { λ r. ⌜ (stackOf (now (stack .exit)) r ≡ steppedOver (stackOf (now (stack .entry)) n) (now (s .entry)) base (count (now (s .entry))))
+        × (r ≤ n + count (now (s .entry))) ⌝ }
 {
     let m = count_of(s);
-    let k = depth_at(s, 0) + 1;
     let mut top = n;
-    let mut i = level_from(s, k, 1);
+    let mut i = 0;
     while i < m {
-        if depth_at(s, i) < k {
-            return Stacked { top: top, used: i };
-        }
-        let kind = kind_at(s, i);
-        if kind <= LAST_NODE {
-            let w = collect_brackets(rest_from(s, i), base + i, stack, top);
-            top = w.top;
-            i = i + w.used;
-        } else {
-            top = stack_step(stack, top, kind, base + i);
-            i = level_from(s, k, i + 1);
-        }
+        top = stack_step(stack, top, kind_at(s, i), base + i);
+        i += 1;
     }
-    Stacked { top: top, used: i }
+    top
+}
+
+// The stack after a table's tree: each child of record 0 is handed on as a part. Returns how many openers are on it.
+fn stack_left(table: &[u8], stack: &mut [u16]) -> usize
+    requires { ⌜ (0 < count (now table)) × (count (now table) ≤ mostRecords) × (mostRecords ≤ length (now stack)) × Stacks (now table) ⌝ }
+    ensures { λ r. ⌜ (stackOf (now (stack .exit)) r ≡ leftBy [] (kids (records 0 (now (table .entry))))) × (r ≤ count (now (table .entry))) ⌝ }
+{
+    let m = count_of(table);
+    let mut top = 0;
+    let mut i = 1;
+    while i < m {
+        let part = stretch_of(table, i);
+        top = collect_brackets(part, i, stack, top);
+        i += count_of(part);
+    }
+    top
 }
 
 // Writes the record numbers of the n openers of a stack, the lowest first.
@@ -116,13 +112,12 @@ fn put_openers(stack: &[u16], n: usize, out: &mut [u8])
 
 // Lists the openers left of a table that is admitted.
 fn list_openers(table: &[u8], out: &mut [u8]) -> Listed
-    requires { ⌜ (0 < count (now table)) × (count (now table) ≤ mostRecords) ⌝ }
+    requires { ⌜ (0 < count (now table)) × (count (now table) ≤ mostRecords) × Stacks (now table) ⌝ }
     ensures { λ r. ⌜ Answers [] openerRow
         (openersLeft (now (table .entry))) (now (out .entry)) r (now (out .exit)) ⌝ }
 {
     let mut stack = [0u16; MOST_RECORDS];
-    let w = collect_brackets(table, 0, &mut stack, 0);
-    let n = w.top;
+    let n = stack_left(table, &mut stack);
     if out.len() < NUMBER_BYTES * n {
         return Listed::Refused(NO_ROOM, n as u32);
     }
@@ -193,12 +188,12 @@ fn hint_on(stack: &[u16], n: usize, message: &[u8]) -> Hint
 
 // The hint for a table that is admitted.
 fn find_hint(table: &[u8], message: &[u8]) -> Hint
-    requires { ⌜ (0 < count (now table)) × (count (now table) ≤ mostRecords) ⌝ }
+    requires { ⌜ (0 < count (now table)) × (count (now table) ≤ mostRecords) × Stacks (now table) ⌝ }
     ensures { λ r. ⌜ r ≡ hintOf (now (message .entry)) (stackLeft (now (table .entry))) ⌝ }
 {
     let mut stack = [0u16; MOST_RECORDS];
-    let w = collect_brackets(table, 0, &mut stack, 0);
-    hint_on(&stack, w.top, message)
+    let n = stack_left(table, &mut stack);
+    hint_on(&stack, n, message)
 }
 
 // The question: the opener that an `expected ..` message speaks of.

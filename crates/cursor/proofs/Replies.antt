@@ -22,7 +22,7 @@ use Rattle.contexts.specs.declared.context.ContextReply.the-variants.{Context, 
 use Rattle.cursor.specs.CursorContext.{lastRule, givenOr, contextReply}
 use Rattle.contexts.specs.inner.ByNumber.{trailingFrom, givenBy}
 use Rattle.cursor.specs.inner.Steps.{told, ruledBy, analyzed}
-use Rattle.forest.proofs.Visits.{rest-kind}
+use Rattle.forest.proofs.Laws.{rest-kind}
 use Rattle.forest.proofs.Walking.{rest-inside}
 
 module _ (src t : List ℕ) (o : ℕ) (g : Gathered) {a : Answer} (e : a ≡ trailingFrom t o (g .statement)) where
@@ -33,7 +33,7 @@ module _ (src t : List ℕ) (o : ℕ) (g : Gathered) {a : Answer} (e : a ≡ tra
   pub path-given : {x : CursorContext} {p : List ℕ} → a ≡ GoOn → (g .ruling ≡ 0 → ⊥) → g .ruled < count t → p ≡ drop (recordBytes * (g .ruled)) t
       → ((base : ℕ) → x ≡ givenBy src o (g .constrained) (g .ruling) (kindAt p 0) (kids (records base p))) → x ≡ analyzed src t o g
   unfolding analyzed givenOr ruledBy told
-  path-given q n h d s = rw (← e, q, ne-eqb _ _ n) (s (g .ruled) ∙ rw (d, rest-kind t (g .ruled) h, rest-inside t (g .ruled)))
+  path-given q n h d s = rw (← e, q, ne-eqb _ _ n) (s (g .ruled) ∙ rw (d, rest-kind t 0 (g .ruled), rest-inside t (g .ruled)))
 
   pub last-given : {x : CursorContext} → a ≡ GoOn → g .ruling ≡ 0 → x ≡ lastRule src t o → x ≡ analyzed src t o g
   unfolding analyzed givenOr ruledBy told

@@ -169,7 +169,7 @@ ends-start t i k d = record { ends = rw d }
 -- ---- a part of a table: the records i up to, not including, e
 
 module _ (t : List ℕ) (base i e : ℕ) (ie : i ≤ e) (ec : e ≤ count t) where
-  count-part : count (part t i e) ≡ e - i
+  pub count-part : count (part t i e) ≡ e - i
   count-part = simp (length-take, length-drop) (omega arith)
 
   byte-part : (x : ℕ) → x < recordBytes * e - recordBytes * i → getD (part t i e) x 0 ≡ getD t (recordBytes * i + x) 0
@@ -192,6 +192,10 @@ module _ (t : List ℕ) (base i e : ℕ) (ie : i ≤ e) (ec : e ≤ count t) whe
       )
 
   -- the part's own records, numbered from base + i, are those of the whole
+  pub kind-part : (m : ℕ) → m < e - i → kindAt (part t i e) m ≡ kindAt t (i + m)
+  unfolding recordAt
+  kind-part m h = ap (λ (r : Rec). r .kind) (record-part m h)
+
   pub records-part : records (base + i) (part t i e) ≡ run t base i (e - i)
   unfolding from
   records-part =
@@ -216,6 +220,10 @@ module _ (t : List ℕ) (base i : ℕ) where
         word-tail (recordBytes * m + 8) (recordBytes * (i + m) + 8) (omega arith),
         word-tail (recordBytes * m + 12) (recordBytes * (i + m) + 12) (omega arith),
       )
+
+  -- the kind of its first record
+  pub rest-kind : kindAt (drop (recordBytes * i) t) 0 ≡ kindAt t i
+  rest-kind = word-tail (recordBytes * 0) (recordBytes * i) (omega arith)
 
   pub count-tail : count (drop (recordBytes * i) t) ≡ count t - i
   count-tail = simp length-drop (omega arith)

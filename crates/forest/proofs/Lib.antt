@@ -2,12 +2,13 @@ pub mod Above
 pub mod Descents
 pub mod Laws
 pub mod Orders
+pub mod Owned
 pub mod Places
 pub mod Reaches
 pub mod Rooted
 pub mod Scans
+pub mod Searches
 pub mod Sense
-pub mod Visits
 pub mod Walking
 pub mod Walks
 pub mod Writing

@@ -57,7 +57,7 @@ pub fn child_from(t: &[u8], j: usize) -> usize
 }
 
 // The first record at or after j that is not deeper than k, or the count of records.
-pub fn level_from(t: &[u8], k: usize, j: usize) -> usize
+fn level_from(t: &[u8], k: usize, j: usize) -> usize
     requires { ⌜ j ≤ count (now t) ⌝ }
     ensures { λ r. ⌜ Reached (now (t .entry)) k j r ⌝ }
 {

@@ -2,13 +2,14 @@
 -- none of this.
 -- Definitions only.
 use Prim.Native.Nat.{ℕ, zero, suc, _+_, _-_, _*_, _/_, _%_}
-use mathlib.Core.Bool.{Bool, cond}
+use mathlib.Core.Path.{_≡_}
+use mathlib.Core.Bool.{cond}
 use mathlib.Core.List.{List, [], _∷_}
 use lib.Dec.{eqb}
 use lib.ListN.{getD}
-use Rattle.table.specs.declared.record.Rec.{Rec}
 use Rattle.table.specs.Kinds.{openingRound, closingRound}
-use Rattle.forest.specs.Forest.{Forest, nil, token, node}
+use Rattle.table.specs.Table.{count, kindAt, records}
+use Rattle.forest.specs.Forest.{Forest, nil, token, node, kids}
 use Rattle.brackets.specs.Brackets.{isOpener, isCloser, holding}
 use Rattle.lent.specs.Text.{bytesOf}
 use Rattle.brackets.specs.declared.bracket_matching.Hint.{Hint}
@@ -35,6 +36,16 @@ unfoldable pub leftBy : List ℕ → Forest → List ℕ
 leftBy stack nil = stack
 leftBy stack (token r rest) = leftBy (steppedBy stack (r .kind) (r .index)) rest
 leftBy stack (node r below rest) = leftBy (leftBy stack below) rest
+
+-- the stack after n records of a part s of the table, one after the other, where the part's first record has the number base
+unfoldable pub steppedOver : List ℕ → List ℕ → ℕ → ℕ → List ℕ
+steppedOver stack s base zero = stack
+steppedOver stack s base (suc n) = steppedBy (steppedOver stack s base n) (kindAt s n) (base + n)
+
+-- what an admitted table has: record 0 does nothing to the stack, and the stack of its tree is that of its records one after the other
+pub record Stacks (t : List ℕ) : Type 0 where
+  pub first : steppedOver [] t 0 1 ≡ []
+  pub flat : leftBy [] (kids (records 0 t)) ≡ steppedOver [] t 0 (count t)
 
 -- the record number of an opener
 abbrev pub unpacked : ℕ → ℕ

@@ -1,4 +1,4 @@
-use Rattle.forest.proofs.Visits.{reached-none, reached-stop, reached-child}
+use Rattle.forest.proofs.Searches.{reached-none, reached-stop, reached-child}
 use mathlib.Core.Path.{refl}
 use native.Mathlib.Omega.{arith}
 use Rattle.forest.proofs.stretch.child_from.Statement.{statement}

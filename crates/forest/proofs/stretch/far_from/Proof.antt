@@ -1,4 +1,4 @@
-use Rattle.forest.proofs.Visits.{Searching, searching-start, searching-here, searching-on, searching-two, searching-three, searching-four, searching-then}
+use Rattle.forest.proofs.Searches.{Searching, searching-start, searching-here, searching-on, searching-two, searching-three, searching-four, searching-then}
 use Prim.Native.Nat.{_-_}
 use native.Mathlib.Omega.{arith}
 use Rattle.forest.proofs.stretch.far_from.Statement.{statement}

@@ -1,4 +1,4 @@
-use Rattle.forest.proofs.Visits.{Searching, searching-start, searching-here, searching-on, searching-none}
+use Rattle.forest.proofs.Searches.{Searching, searching-start, searching-here, searching-on, searching-none}
 use Prim.Native.Nat.{_-_}
 use native.Mathlib.Omega.{arith}
 use Rattle.forest.proofs.stretch.level_from.Statement.{statement}

@@ -1,4 +1,4 @@
-use Rattle.forest.proofs.Visits.{reached-stretch}
+use Rattle.forest.proofs.Searches.{reached-stretch}
 use native.Mathlib.Omega.{arith}
 use Rattle.forest.proofs.stretch.stretch_end.Statement.{statement}
 use Rattle.forest.proofs.stretch.stretch_end.Tie as tie
