@@ -1,4 +1,4 @@
--- Names in a source: which tokens are names, their ranges, and the names without their quotes.
+-- Names in a source: which tokens are names, and their ranges with and without their quotes (document 02 §3).
 -- src is the source's bytes. A range that has no name is absent.
 -- Definitions only.
 use Prim.Native.Nat.{ℕ, _+_, _-_}
@@ -11,10 +11,11 @@ use Rattle.table.specs.Kinds.{bareWord, quotedIdentifier}
 use Rattle.forest.specs.Forest.{Forest, nil, token, node}
 use Rattle.lent.specs.Text.{bytesOf, text, says}
 use Rattle.table.specs.declared.range.Range.{Range}
+use Rattle.names.specs.declared.names.NameRanges.{NameRanges}
 use Rattle.names.specs.declared.names.NameBinding.{NameBinding}
 use Rattle.names.specs.declared.names.Bound.{Bound}
 use Rattle.names.specs.declared.names.Bound.the-variants.{Unnamed, Named}
-use Rattle.table.specs.Ranges.{span}
+use Rattle.table.specs.Ranges.{absent, span}
 
 -- ---- which tokens are names
 
@@ -43,28 +44,36 @@ direct test (token t rest) =
     cond (test t) more on
 direct test (node r below rest) = direct test rest
 
--- ---- names without their quotes
+-- ---- names with and without their quotes
 
 -- a backtick or a double quote
 abbrev pub isMark : ℕ → Bool
 isMark b = eqb b 96 || eqb b 34
 
--- the text between start and end without a matching pair of marks; a lone mark is kept
+-- the text between start and end without a matching pair of marks; a lone mark is kept, and marks that do not match
 unfoldable pub unquoted : List ℕ → ℕ → ℕ → Range
 unquoted src start end =
-    let inner : Range = record { start = start + 1; end = end - 1 } in
+    let between : Range = record { start = start + 1; end = end - 1 } in
     let whole : Range = record { start = start; end = end } in
-    cond (leb 2 (end - start) && (isMark (byteAt src start) && eqb (byteAt src (end - 1)) (byteAt src start))) inner whole
+    cond (leb 2 (end - start) && (isMark (byteAt src start) && eqb (byteAt src (end - 1)) (byteAt src start))) between whole
 
--- the name that a token gives: a Quoted loses its quotes
-unfoldable pub nameOf : List ℕ → Rec → Range
-nameOf src t = cond (eqb (t .kind) quotedIdentifier) (unquoted src (t .start) (t .end)) (span t)
+-- the name that a token gives. Outer: the token's range. Inner: a Quoted loses its quotes; a name that is no Quoted has the same range twice
+unfoldable pub nameOf : List ℕ → Rec → NameRanges
+nameOf src t = record { outer = span t; inner = cond (eqb (t .kind) quotedIdentifier) (unquoted src (t .start) (t .end)) (span t) }
+
+-- no name: an absent range twice
+abbrev pub absentName : NameRanges
+absentName = record { outer = absent; inner = absent }
 
 -- ---- what a node binds
 
--- the name token t in the node r: token, name and definition
+-- the name token t in the node r: its name's outer range, which is the token's, and its inner one; and the definition
 unfoldable pub binding : List ℕ → Rec → Rec → NameBinding
-binding src r t = record { token = span t; name = nameOf src t; definition = span r }
+binding src r t = record { token = nameOf src t .outer; name = nameOf src t .inner; definition = span r }
+
+-- the name that is bound
+abbrev pub boundName : NameBinding → NameRanges
+boundName b = record { outer = b .token; inner = b .name }
 
 -- the node r binds the first of these name tokens
 unfoldable pub firstNamed : List ℕ → Rec → List Rec → Bound

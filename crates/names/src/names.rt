@@ -5,6 +5,7 @@ use lent::text::text_of;
 use table::kinds::BARE_WORD;
 use table::kinds::QUOTED_IDENTIFIER;
 use table::range::Range;
+use table::range::no_range;
 use table::range::span_of;
 use table::record::Rec;
 use table::record::count_of;
@@ -15,7 +16,13 @@ ghost use Prim.Native.Nat.{_+_, _≤_, _<_};
 ghost use Rattle.table.specs.Table.{count, recordAt, records};
 ghost use Rattle.forest.specs.Forest.{kids};
 ghost use Rattle.table.specs.Rules.{mostRecords};
-ghost use Rattle.names.specs.Names.{byteAt, isAs, isPart, isName, isMark, unquoted, nameOf, binding, withItem, aliasIn};
+ghost use Rattle.names.specs.Names.{byteAt, isAs, isPart, isName, isMark, unquoted, nameOf, absentName, binding, boundName, withItem, aliasIn};
+
+// A name's two ranges: with its quotes, and without.
+pub struct NameRanges {
+    pub outer: Range,
+    pub inner: Range,
+}
 
 // A name that a WITH item, a table alias or a column alias binds.
 pub struct NameBinding {
@@ -93,14 +100,29 @@ fn unquote(source: &[u8], start: usize, end: usize) -> Range
     }
 }
 
-// The range of a name: a Quoted loses its quotes.
-fn name_of(source: &[u8], t: Rec) -> Range
+// The name that a token gives: a Quoted loses its quotes in the inner range.
+pub fn name_of(source: &[u8], t: Rec) -> NameRanges
     ensures { λ r. ⌜ r ≡ nameOf (now (source .entry)) t ⌝ }
 {
+    let outer = span_of(t);
     if t.kind == QUOTED_IDENTIFIER {
-        unquote(source, t.start, t.end)
+        let inner = unquote(source, t.start, t.end);
+        NameRanges { outer, inner }
     } else {
-        span_of(t)
+        NameRanges {
+            outer,
+            inner: outer,
+        }
+    }
+}
+
+// The name where there is none.
+pub fn no_name() -> NameRanges
+    ensures { λ r. ⌜ r ≡ absentName ⌝ }
+{
+    NameRanges {
+        outer: no_range(),
+        inner: no_range(),
     }
 }
 
@@ -108,11 +130,23 @@ fn name_of(source: &[u8], t: Rec) -> Range
 fn binding_of(source: &[u8], r: Rec, t: Rec) -> NameBinding
     ensures { λ x. ⌜ x ≡ binding (now (source .entry)) r t ⌝ }
 {
+    let n = name_of(source, t);
+    let token = n.outer;
+    let name = n.inner;
     NameBinding {
-        token: span_of(t),
-        name: name_of(source, t),
+        token,
+        name,
         definition: span_of(r),
     }
+}
+
+// The name that is bound.
+pub fn bound_name(b: NameBinding) -> NameRanges
+    ensures { λ r. ⌜ r ≡ boundName b ⌝ }
+{
+    let outer = b.token;
+    let inner = b.name;
+    NameRanges { outer, inner }
 }
 
 // What a WITH item, the first record of the stretch s, binds: its first name.

@@ -1,37 +1,37 @@
 -- The table reading of FROM and JOIN, and the entries of its references.
 -- src is the source's bytes.
 -- Definitions only.
-use Prim.Native.Nat.{ℕ, _*_}
+use Prim.Native.Nat.{ℕ, _+_, _*_}
 use mathlib.Core.Bool.{cond}
 use mathlib.Core.List.{List, [], _∷_, _++_}
 use lib.Dec.{eqb}
 use Rattle.table.specs.declared.record.Rec.{Rec}
 use Rattle.table.specs.Kinds.{joinClause, tableIdentifier, tableExpression, tableAlias}
 use Rattle.forest.specs.Forest.{Forest, nil, token, node}
+use Rattle.names.specs.declared.names.NameRanges.{NameRanges}
 use Rattle.names.specs.declared.names.NameBinding.{NameBinding}
 use Rattle.tables.specs.declared.pending.TableRef.{TableRef}
 use Rattle.names.specs.declared.names.Bound.{Bound}
 use Rattle.names.specs.declared.names.Bound.the-variants.{Unnamed, Named}
 use Rattle.tables.specs.declared.pending.Pending.{Pending}
 use Rattle.tables.specs.declared.pending.Pending.the-variants.{Nothing, Held}
-use Rattle.table.specs.Ranges.{absent, span}
-use Rattle.names.specs.Names.{isPart, direct, aliasIn}
+use Rattle.names.specs.Names.{isPart, direct, nameOf, absentName, boundName, aliasIn}
 use Rattle.lent.specs.Numbers.{numberBytes}
 
 -- ---- the table reading
 
 -- the reference of name node x by its parts. One: table; two: database, table; else none
-unfoldable pub fresh : ℕ → List Rec → Pending
-fresh x [] = Nothing
-fresh x (t ∷ []) = Held (record { «record» = x; database = absent; table = span t; alias = absent })
-fresh x (d ∷ t ∷ []) = Held (record { «record» = x; database = span d; table = span t; alias = absent })
-fresh x (d ∷ t ∷ u ∷ more) = Nothing
+unfoldable pub fresh : List ℕ → ℕ → List Rec → Pending
+fresh src x [] = Nothing
+fresh src x (t ∷ []) = Held (record { «record» = x; database = absentName; table = nameOf src t; alias = absentName })
+fresh src x (d ∷ t ∷ []) = Held (record { «record» = x; database = nameOf src d; table = nameOf src t; alias = absentName })
+fresh src x (d ∷ t ∷ u ∷ more) = Nothing
 
 -- an alias that has a name sets the alias of the pending reference, if one is pending
 unfoldable pub aliased : Pending → Bound → Pending
 aliased Nothing b = Nothing
 aliased (Held t) Unnamed = Held t
-aliased (Held t) (Named b) = Held (record { «record» = t .«record»; database = t .database; table = t .table; alias = b .name })
+aliased (Held t) (Named b) = Held (record { «record» = t .«record»; database = t .database; table = t .table; alias = boundName b })
 
 -- what a reading lists of a reference that is handed on, and of an alias that is set
 pub record Listing (E : Type 0) : Type 0 where
@@ -54,7 +54,7 @@ unfoldable pub tableReading : {E : Type 0} → Listing E → List ℕ → Pendin
 tableReading L src p nil = handOn L p
 tableReading L src p (token r rest) = tableReading L src p rest
 tableReading {E} L src p (node r below rest) =
-    let name : List E = handOn L p ++ tableReading L src (fresh (r .index) (direct isPart below)) rest in
+    let name : List E = handOn L p ++ tableReading L src (fresh src (r .index) (direct isPart below)) rest in
     let alias : List E = listAlias L p (aliasIn src r below) ++ tableReading L src (aliased p (aliasIn src r below)) rest in
     let table : List E = tableReading L src Nothing below ++ tableReading L src p rest in
     let join : List E = handOn L p ++ (tableReading L src Nothing below ++ tableReading L src Nothing rest) in
@@ -69,11 +69,17 @@ references = record { reference = λ t. t ∷ []; alias = λ b. [] }
 abbrev pub aliases : Listing NameBinding
 aliases = record { reference = λ t. []; alias = λ b. b ∷ [] }
 
--- a reference: record, then database, table, alias ranges
-abbrev pub referenceRow : TableRef → List ℕ
-referenceRow e =
-    e .«record» ∷ e .database .start ∷ e .database .end ∷ e .table .start ∷ e .table .end ∷ e .alias .start ∷ e .alias .end ∷ []
+-- a name: its outer range, then its inner one
+abbrev pub nameRow : NameRanges → List ℕ
+nameRow n = n .outer .start ∷ n .outer .end ∷ n .inner .start ∷ n .inner .end ∷ []
 
--- how many bytes each takes
+-- a reference: record, then the ranges of database, table and alias, name by name
+abbrev pub referenceRow : TableRef → List ℕ
+referenceRow e = e .«record» ∷ nameRow (e .database) ++ nameRow (e .table) ++ nameRow (e .alias)
+
+-- how many numbers each has, and how many bytes it takes
+abbrev pub referenceNumbers : ℕ
+referenceNumbers = 1 + 3 * 4
+
 abbrev pub referenceBytes : ℕ
-referenceBytes = 7 * numberBytes
+referenceBytes = referenceNumbers * numberBytes

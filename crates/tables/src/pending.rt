@@ -2,10 +2,11 @@
 use forest::stretch::child_from;
 use lent::number::NUMBER_BYTES;
 use names::names::Bound;
+use names::names::NameRanges;
+use names::names::bound_name;
 use names::names::is_part;
-use table::range::Range;
-use table::range::no_range;
-use table::range::span_of;
+use names::names::name_of;
+use names::names::no_name;
 use table::record::count_of;
 use table::record::record_at;
 ghost use mathlib.Core.Path.{_≡_};
@@ -17,15 +18,17 @@ ghost use Rattle.names.specs.Names.{isPart, direct};
 ghost use Rattle.tables.specs.Tables.{fresh, aliased};
 ghost use Rattle.tables.specs.inner.Rows.{pends};
 
-// How many bytes the entry of a reference takes: seven numbers.
-pub const REFERENCE_BYTES: usize = 7 * NUMBER_BYTES;
+// How many numbers the entry of a reference has, its record and two ranges for each of three names; and how many bytes that takes.
+pub const REFERENCE_NUMBERS: usize = 1 + 3 * 4;
+
+pub const REFERENCE_BYTES: usize = REFERENCE_NUMBERS * NUMBER_BYTES;
 
 // A table reference in FROM or JOIN.
 pub struct TableRef {
     pub record: usize,
-    pub database: Range,
-    pub table: Range,
-    pub alias: Range,
+    pub database: NameRanges,
+    pub table: NameRanges,
+    pub alias: NameRanges,
 }
 
 // The pending reference of a table reading.
@@ -35,21 +38,21 @@ pub enum Pending {
 }
 
 // The reference of a table name, the first record of the stretch s: of one part or two, else none.
-pub fn extract_table_identifier(s: &[u8], base: usize) -> Pending
+pub fn extract_table_identifier(s: &[u8], base: usize, source: &[u8]) -> Pending
     requires { ⌜ (0 < count (now s)) × (base + count (now s) ≤ mostRecords) ⌝ }
-    ensures { λ r. ⌜ r ≡ fresh base (direct isPart (kids (records base (now (s .entry))))) ⌝ }
+    ensures { λ r. ⌜ r ≡ fresh (now (source .entry)) base (direct isPart (kids (records base (now (s .entry))))) ⌝ }
 {
     let m = count_of(s);
     let mut parts: usize = 0;
-    let mut database = no_range();
-    let mut table = no_range();
+    let mut database = no_name();
+    let mut table = no_name();
     let mut i = child_from(s, 1);
     while i < m {
         let t = record_at(s, base, i);
         if is_part(t) {
             parts += 1;
             database = table;
-            table = span_of(t);
+            table = name_of(source, t);
             i = child_from(s, i + 1);
         } else {
             i = child_from(s, i + 1);
@@ -65,12 +68,12 @@ pub fn extract_table_identifier(s: &[u8], base: usize) -> Pending
         record: base,
         database,
         table,
-        alias: no_range(),
+        alias: no_name(),
     })
 }
 
 // The reference with this alias.
-fn set_alias(mut t: TableRef, alias: Range) -> TableRef
+fn set_alias(mut t: TableRef, alias: NameRanges) -> TableRef
     ensures { λ r. ⌜ r ≡ record { «record» = t .«record»; database = t .database; table = t .table; alias = alias } ⌝ }
 {
     t.alias = alias;
@@ -86,7 +89,7 @@ pub fn with_alias(p: Pending, b: Bound) -> Pending
         Pending::Held(t) => match b {
             Bound::Unnamed => p,
             Bound::Named(n) => {
-                let name = n.name;
+                let name = bound_name(n);
                 Pending::Held(set_alias(t, name))
             }
         },

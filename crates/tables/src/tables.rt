@@ -38,12 +38,18 @@ fn put_reference(t: TableRef, out: &mut [u8], at: usize) -> usize
 {
     let row = [
         t.record,
-        t.database.start,
-        t.database.end,
-        t.table.start,
-        t.table.end,
-        t.alias.start,
-        t.alias.end,
+        t.database.outer.start,
+        t.database.outer.end,
+        t.database.inner.start,
+        t.database.inner.end,
+        t.table.outer.start,
+        t.table.outer.end,
+        t.table.inner.start,
+        t.table.inner.end,
+        t.alias.outer.start,
+        t.alias.outer.end,
+        t.alias.inner.start,
+        t.alias.inner.end,
     ];
     put_entry(out, at, &row)
 }
@@ -103,7 +109,7 @@ pub fn collect_table_refs(
         if kind == TABLE_IDENTIFIER {
             let part = stretch_of(s, i);
             next = hand_on(reads, pending, out, next);
-            pending = extract_table_identifier(part, base + i);
+            pending = extract_table_identifier(part, base + i, source);
             i = child_from(s, i + count_of(part));
         } else if kind == TABLE_ALIAS {
             let part = stretch_of(s, i);

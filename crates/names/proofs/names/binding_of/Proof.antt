@@ -8,7 +8,6 @@ unfolding binding
 binding-of-spec =
     tie.close
     (tie.spec
-    (λ c κs. search needs)  -- span-of-requires
     (λ c κs. search needs)  -- name-of-requires
-    (λ c κs. search needs)  -- span-of-requires-2
-    (λ c. cc))  -- returns
+    (λ c κs. search needs)  -- span-of-requires
+    (λ c. rw (c .before .before .before .name-of .ensures, c .span-of .ensures)))  -- returns

@@ -9,7 +9,7 @@ unfolding nameOf
 name-of-spec =
     tie.close
     (tie.spec
-    (λ c κs. search needs)  -- unquote-requires
     (λ c κs. search needs)  -- span-of-requires
-    (λ c. rw (eq-eqb _ 132 (c .before .if1 .taken)) (c .unquote .ensures))  -- returns
-    (λ c. rw (ne-eqb _ 132 (c .before .if1 .left)) (c .span-of .ensures)))  -- returns-2
+    (λ c κs. search needs)  -- unquote-requires
+    (λ c. rw (eq-eqb _ 132 (c .before .if1 .taken), c .before .before .before .span-of .ensures, c .unquote .ensures))  -- returns
+    (λ c. rw (ne-eqb _ 132 (c .if1 .left), c .before .before .span-of .ensures)))  -- returns-2
