@@ -106,8 +106,8 @@ fn in_rooms(q: List, f: &Frame, table: &[u8], of: Of, entries: &[Vec<u32>], tall
     let need = entries.len() * q.width();
     tally.lists += 1;
     tally.entries += entries.len();
-    // room for an entry for each record is another way through our code than just enough
-    for room in [need + 13, need, need.saturating_sub(1), 0, 56 * f.recs.len()] {
+    // room for two entries of each record is more than any list needs
+    for room in [need + 13, need, need.saturating_sub(1), 0, 104 * f.recs.len()] {
         ask(q, f, table, of, room, None, entries)?;
     }
     Ok(())

@@ -50,7 +50,7 @@ impl List {
         match self {
             List::Classes => 12,
             List::Openers | List::Above => 4,
-            List::TableRefs => 28,
+            List::TableRefs => 52,
             List::Context | List::Contexts => 16,
             _ => 24,
         }

@@ -10,7 +10,7 @@ use std::process::{Command, Stdio};
 const MOST_SOURCE: usize = 4096;
 const MOST_RECORDS: usize = 1024;
 const REFERENCE_ROOM: usize = 16384;
-const REFERENCE_BYTES: usize = 28;
+const REFERENCE_BYTES: usize = 52;
 
 /// A frame and an offset as input lines; none where a kind or a depth has no two digits.
 pub fn lines(f: &Frame, offset: u32) -> Option<Vec<u8>> {

@@ -29,7 +29,7 @@ fn all() -> [Listed; 7] {
         Listed { what: "a lone quote mark as an alias of a column", frame: made("\"", &[(15, 0, 0, 1), (36, 1, 0, 1), (QUOTED, 2, 0, 1)]), question: List::ColumnAliases,
             rust: Rust::Stops, ours: &[&[0, 1, 0, 1, 0, 1]] },
         Listed { what: "a lone quote mark as an alias of a table", frame: made("t`", &[(16, 0, 0, 2), (33, 1, 0, 1), (BARE_WORD, 2, 0, 1), (35, 1, 1, 2), (QUOTED, 2, 1, 2)]),
-            question: List::TableRefs, rust: Rust::Stops, ours: &[&[1, NONE, NONE, 0, 1, 1, 2]] },
+            question: List::TableRefs, rust: Rust::Stops, ours: &[&[1, NONE, NONE, NONE, NONE, 0, 1, 0, 1, 1, 2, 1, 2]] },
         Listed { what: "a token that ends inside a character, classed", frame: made("é", &[(55, 0, 0, 2), (BARE_WORD, 1, 0, 1)]), question: List::Classes,
             rust: Rust::Stops, ours: &[&[0, 1, 6]] },
         Listed { what: "a token that ends inside a character, at a cursor", frame: made("é", &[(16, 0, 0, 2), (BARE_WORD, 1, 0, 1)]), question: List::Context,

@@ -149,18 +149,29 @@ impl Twin {
         Twin { source, recs, tree }
     }
 
-    /// Where a name of the twin stands in the frame: its token, and how much of the token's text was cut at either end.
-    fn place(&self, frame: &Frame, name: &str, true_name: &str) -> Result<(u32, u32), String> {
+    /// Where a name of the twin stands in the frame: its token's record, and its range, by how much of the token's text was cut at either end.
+    fn place(&self, frame: &Frame, name: &str, true_name: &str) -> Result<(usize, [u32; 2]), String> {
         let digits: String = name.chars().filter(|c| c.is_ascii_digit()).collect();
         let i: usize = digits.parse().map_err(|_| format!("the twin's name {name:?} spells no record"))?;
         let text = &self.source[self.recs[i].start as usize..self.recs[i].end as usize];
         let cut = text.find(name).ok_or(format!("the twin's name {name:?} is not in {text:?}"))?;
-        let range = (frame.recs[i].start + cut as u32, frame.recs[i].end - (text.len() - cut - name.len()) as u32);
-        let there = frame.source.get(range.0 as usize..range.1 as usize);
+        let range = [frame.recs[i].start + cut as u32, frame.recs[i].end - (text.len() - cut - name.len()) as u32];
+        let there = frame.source.get(range[0] as usize..range[1] as usize);
         if there != Some(true_name.as_bytes()) {
             return Err(format!("the Rust's name {true_name:?} is not what stands at {range:?}: {there:?}"));
         }
-        Ok(range)
+        Ok((i, range))
+    }
+}
+
+/// The two ranges of a name, written anew from document 02 §3: the outer one is its token's, the inner one is without a matching pair of marks where the token is a
+/// Quoted. The Rust has but one of the two.
+fn name_at(frame: &Frame, record: usize) -> ([u32; 2], [u32; 2]) {
+    let r = frame.recs[record];
+    let outer = [r.start, r.end];
+    match (r.kind, frame.text(record)) {
+        (QUOTED, [b'`', .., b'`'] | [b'"', .., b'"']) => (outer, [r.start + 1, r.end - 1]),
+        _ => (outer, outer),
     }
 }
 
@@ -271,12 +282,15 @@ impl<'a> Asked<'a> {
             return Err("the twin has another number of bindings".into());
         }
         let one = |(r, t): (&NameBinding, &NameBinding)| {
-            let name = self.twin.place(self.frame, &t.name, &r.name)?;
+            let (token, name) = self.twin.place(self.frame, &t.name, &r.name)?;
             let definition = self.frame.recs[t.definition_range.0 as usize];
             if (definition.start, definition.end) != r.definition_range {
                 return Err("the twin has another definition".to_string());
             }
-            Ok(vec![r.range.0, r.range.1, name.0, name.1, definition.start, definition.end])
+            if name_at(self.frame, token) != ([r.range.0, r.range.1], name) {
+                return Err(format!("by the Rust {name:?} at {:?}, by document 02 {:?}", r.range, name_at(self.frame, token)));
+            }
+            Ok(vec![r.range.0, r.range.1, name[0], name[1], definition.start, definition.end])
         };
         real.iter().zip(twin).map(one).collect()
     }
@@ -292,13 +306,17 @@ impl<'a> Asked<'a> {
             if (node.start, node.end) != r.range {
                 return Err("the twin has another reference".into());
             }
-            for pair in [(&r.database, &t.database), (&Some(r.table.clone()), &Some(t.table.clone())), (&r.alias, &t.alias)] {
-                let range = match pair {
-                    (None, None) => (NONE, NONE),
-                    (Some(a), Some(b)) => self.twin.place(self.frame, b, a)?,
+            // of a database and of a table the Rust has the outer range, of an alias the inner one
+            for (real, twin, quoted) in [(&r.database, &t.database, true), (&Some(r.table.clone()), &Some(t.table.clone()), true), (&r.alias, &t.alias, false)] {
+                match (real, twin) {
+                    (None, None) => row.extend([NONE; 4]),
+                    (Some(real), Some(twin)) => {
+                        let (record, range) = self.twin.place(self.frame, twin, real)?;
+                        let (outer, inner) = name_at(self.frame, record);
+                        row.extend(if quoted { [range, inner] } else { [outer, range] }.concat());
+                    }
                     _ => return Err("the twin's reference has other parts".into()),
-                };
-                row.extend([range.0, range.1]);
+                }
             }
             out.push(row);
         }

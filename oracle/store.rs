@@ -3,8 +3,8 @@
 use crate::glance::{printed, Printed};
 use crate::inputs::inputs;
 
-/// What document 01's worked example prints at 9, the first input.
-const WORKED_AT_9: &str = "C 3 7 8 0\nS 1\nT 12 - - 15 18 19 20\nK 0 6 0\nK 7 8 6\nK 10 14 0\nK 15 18 9\nK 19 20 9\nE\n";
+/// What document 01's worked example prints at 9, the first input, with the names of document 02 §3.
+const WORKED_AT_9: &str = "C 3 7 8 0\nS 1\nT 12 - - - - 15 18 15 18 19 20 19 20\nK 0 6 0\nK 7 8 6\nK 10 14 0\nK 15 18 9\nK 19 20 9\nE\n";
 
 /// The list's bytes; it says on the way what was stored.
 pub fn store(frames: usize, seed: u64) -> Result<Vec<u8>, String> {

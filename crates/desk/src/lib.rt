@@ -28,10 +28,10 @@ ghost use Rattle.replies.specs.Reply.{verdictReply, hintReply, AnswersC};
 
 // The layout of records and entries, by its number: a host asks for it by its name, so that one of another layout does not link.
 #[no_mangle]
-pub extern "C" fn desk_layout_2() -> u64
-    ensures { λ r. ⌜ r ≡ 2 ⌝ }
+pub extern "C" fn desk_layout_3() -> u64
+    ensures { λ r. ⌜ r ≡ 3 ⌝ }
 {
-    2
+    3
 }
 
 // Is the table admitted? High half of an answer: 0.

@@ -155,12 +155,12 @@ module _ (src t out : List ℕ) (z : length out ≡ referenceRoom) where
     -- the references are read back from their buffer, and are the answer's
     pub question-read : {n : ℕ} {list : List ℕ} → r ≡ Entries n → list ≡ lent (rootRules t (length src) 0) referenceRow (tableRefs src t 0) out
         → (Admitted ≡ verdict t (length src) 0) × (n * referenceBytes ≤ length list) × (n ≤ mostReferences)
-        × ((o : ℕ) → replied src t o ≡ answeredBy src t o (printedWords letterT 1 7 list 0 n))
+        × ((o : ℕ) → replied src t o ≡ answeredBy src t o (printedWords letterT 1 13 list 0 n))
     unfolding verdict unlessRefused answerText
     question-read {n} {list} q b =
         let a : Admitted ≡ listVerdict (rootRules t (length src) 0) referenceRow (tableRefs src t 0) out
         = list-given referenceRow (rootRules t (length src) 0) (tableRefs src t 0) out (sym q ∙ w) .0 in
-        let g = list-read referenceRow 7 (λ e. refl) (rootRules t (length src) 0) (tableRefs src t 0) out (sym q ∙ w) b in (
+        let g = list-read referenceRow 13 (λ e. refl) (rootRules t (length src) 0) (tableRefs src t 0) out (sym q ∙ w) b in (
           admitted-first (rules t (length src) 0) _ (admitted-first (rootRules t (length src) 0) _ a),
           g .1,
           omega (arith, g .2, z),

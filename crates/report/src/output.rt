@@ -38,7 +38,7 @@ const OPENER_NUMBERS: usize = 1;
 
 const REFERENCE_NUMBERS: usize = 1;
 
-const REFERENCE_RANGES: usize = 3;
+const REFERENCE_RANGES: usize = 6;
 
 // How many bytes of room the lists have: the references as document 01 says, the others for an entry of each record.
 const REFERENCE_ROOM: usize = 16384;
@@ -50,8 +50,8 @@ const OPENER_ROOM: usize = MOST_LINES * OPENER_NUMBERS * NUMBER_BYTES;
 // How many references have room.
 pub const MOST_REFERENCES: usize = REFERENCE_ROOM / REFERENCE_BYTES;
 
-// No line is longer: a letter, seven numbers of ten digits with a space before each, LF.
-pub const LINE_ROOM: usize = 1 + 7 * 11 + 1;
+// No line is longer: a letter, thirteen numbers of ten digits with a space before each, LF.
+pub const LINE_ROOM: usize = 1 + 13 * 11 + 1;
 
 // Writes a byte and returns where the next goes.
 fn put_byte(out: &mut [u8], at: usize, b: u8) -> usize
@@ -149,7 +149,7 @@ fn put_line(
     n: usize,
     m: usize,
 ) -> usize
-    requires { ⌜ (n + (m + m) ≤ 7) × (from + numberBytes * (n + (m + m)) ≤ length (now list)) × (at + lineRoom ≤ length (now out)) ⌝ }
+    requires { ⌜ (n + (m + m) ≤ 13) × (from + numberBytes * (n + (m + m)) ≤ length (now list)) × (at + lineRoom ≤ length (now out)) ⌝ }
     ensures { λ r. ⌜ Put (printed letter n (words (now (list .entry)) from (n + (m + m)))) (now (out .entry)) at (now (out .exit)) r × (r ≤ at + lineRoom) ⌝ }
 {
     let first = put_byte(out, at, letter);
@@ -168,7 +168,7 @@ fn put_list(
     n: usize,
     m: usize,
 ) -> usize
-    requires { ⌜ (n + (m + m) ≤ 7) × (k * (numberBytes * (n + (m + m))) ≤ length (now list)) × (at + lineRoom * k ≤ length (now out)) ⌝ }
+    requires { ⌜ (n + (m + m) ≤ 13) × (k * (numberBytes * (n + (m + m))) ≤ length (now list)) × (at + lineRoom * k ≤ length (now out)) ⌝ }
     ensures { λ r. ⌜ Put (printedWords letter n (n + (m + m)) (now (list .entry)) 0 k) (now (out .entry)) at (now (out .exit)) r × (r ≤ at + lineRoom * k) ⌝ }
 {
     let width = NUMBER_BYTES * (n + (m + m));
@@ -283,7 +283,7 @@ fn put_answer(
 ) -> usize
     requires { ⌜ (Admitted ≡ verdict (now table) (length (now source)) 0) × (count (now table) ≤ mostLines)
         × (n * referenceBytes ≤ length (now refs)) × (n ≤ mostReferences) × (textRoom ≤ length (now out)) ⌝ }
-    ensures { λ r. ⌜ Put (answeredBy (now (source .entry)) (now (table .entry)) offset (printedWords letterT 1 7 (now (refs .entry)) 0 n))
+    ensures { λ r. ⌜ Put (answeredBy (now (source .entry)) (now (table .entry)) offset (printedWords letterT 1 13 (now (refs .entry)) 0 n))
         (now (out .entry)) 0 (now (out .exit)) r × (r ≤ textRoom) ⌝ }
 {
     let first = put_context(out, 0, table, source, offset);

@@ -85,7 +85,7 @@ module _ {E F : Type 0} (row : E → F) (L : Listing E) where
   reading-map src p (node r below rest) = go (eqb (r .kind) tableIdentifier) (eqb (r .kind) tableAlias) (eqb (r .kind) tableExpression) (eqb (r .kind) joinClause) (reading-map src Nothing below) (λ q. reading-map src q rest)
     where
       named : Pending
-      named = fresh (r .index) (direct isPart below)
+      named = fresh src (r .index) (direct isPart below)
 
       bound : Bound
       bound = aliasIn src r below
@@ -134,7 +134,7 @@ unfolding width
 wide-at WithNames src t i = wide-rows bindingRow 24 (λ e. refl) (withNames src t i) (with-rows src t i)
 wide-at TableAliases src t i = wide-rows bindingRow 24 (λ e. refl) (tableAliases src t i) (alias-rows src t i)
 wide-at ColumnAliases src t i = wide-rows bindingRow 24 (λ e. refl) (columnAliases src t i) (column-rows src t i)
-wide-at TableRefs src t i = wide-rows referenceRow 28 (λ e. refl) (tableRefs src t i) (reference-rows src t i)
+wide-at TableRefs src t i = wide-rows referenceRow 52 (λ e. refl) (tableRefs src t i) (reference-rows src t i)
 
 wide-some : (asked : Asked) → 0 < width asked
 unfolding width

@@ -59,7 +59,7 @@ alias-held (Held t) (Named b) e y = refl
 -- ---- the table reading: what it has yet to read with p pending, at a record of each kind
 
 module _ {E : Type 0} (L : Listing E) (src : List ℕ) (p : Pending) (r : Rec) (below f : Forest) where
-  at-name : eqb (r .kind) tableIdentifier ≡ true → tableReading L src p (node r below f) ≡ handOn L p ++ tableReading L src (fresh (r .index) (direct isPart below)) f
+  at-name : eqb (r .kind) tableIdentifier ≡ true → tableReading L src p (node r below f) ≡ handOn L p ++ tableReading L src (fresh src (r .index) (direct isPart below)) f
   unfolding tableReading
   at-name e = rw e
 
@@ -88,7 +88,7 @@ module _ {E : Type 0} (L : Listing E) (src : List ℕ) (p : Pending) (s : List �
   unfolding tableReading
   read-token = refl
 
-  pub read-name : {q : Pending} (below : Forest) → kindAt s i ≡ tableIdentifier → q ≡ fresh (base + i) (direct isPart below)
+  pub read-name : {q : Pending} (below : Forest) → kindAt s i ≡ tableIdentifier → q ≡ fresh src (base + i) (direct isPart below)
       → tableReading L src p (node (recordAt s base i) below f) ≡ handOn L p ++ tableReading L src q f
   read-name below e q = at-name L src p _ below f (kind-yes s base i e) ∙ rw (index-of s base i, q)
 

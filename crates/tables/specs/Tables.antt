@@ -1,7 +1,7 @@
 -- The table reading of FROM and JOIN, and the entries of its references.
 -- src is the source's bytes.
 -- Definitions only.
-use Prim.Native.Nat.{ℕ, _+_, _*_}
+use Prim.Native.Nat.{ℕ, _*_}
 use mathlib.Core.Bool.{cond}
 use mathlib.Core.List.{List, [], _∷_, _++_}
 use lib.Dec.{eqb}
@@ -77,9 +77,6 @@ nameRow n = n .outer .start ∷ n .outer .end ∷ n .inner .start ∷ n .inner .
 abbrev pub referenceRow : TableRef → List ℕ
 referenceRow e = e .«record» ∷ nameRow (e .database) ++ nameRow (e .table) ++ nameRow (e .alias)
 
--- how many numbers each has, and how many bytes it takes
-abbrev pub referenceNumbers : ℕ
-referenceNumbers = 1 + 3 * 4
-
+-- how many bytes each takes
 abbrev pub referenceBytes : ℕ
-referenceBytes = referenceNumbers * numberBytes
+referenceBytes = 13 * numberBytes

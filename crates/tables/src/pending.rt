@@ -18,10 +18,8 @@ ghost use Rattle.names.specs.Names.{isPart, direct};
 ghost use Rattle.tables.specs.Tables.{fresh, aliased};
 ghost use Rattle.tables.specs.inner.Rows.{pends};
 
-// How many numbers the entry of a reference has, its record and two ranges for each of three names; and how many bytes that takes.
-pub const REFERENCE_NUMBERS: usize = 1 + 3 * 4;
-
-pub const REFERENCE_BYTES: usize = REFERENCE_NUMBERS * NUMBER_BYTES;
+// How many bytes the entry of a reference takes: thirteen numbers, its record and two ranges of each of its three names.
+pub const REFERENCE_BYTES: usize = 13 * NUMBER_BYTES;
 
 // A table reference in FROM or JOIN.
 pub struct TableRef {

@@ -34,9 +34,9 @@ unfoldable pub entryCount : Listed → ℕ
 entryCount (Entries n) = n
 entryCount (Unlisted k d) = 0
 
--- no line is longer: a letter, seven numbers of ten digits with a space before each, LF
+-- no line is longer: a letter, thirteen numbers of ten digits with a space before each, LF
 abbrev pub lineRoom : ℕ
-lineRoom = 1 + 7 * 11 + 1
+lineRoom = 1 + 13 * 11 + 1
 
 -- how many references have room, and how many bytes every text has room in: a line for the context, the statement and the end, and one
 -- for each reference, token and opener

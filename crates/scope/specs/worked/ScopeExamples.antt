@@ -17,6 +17,13 @@ use Rattle.scope.specs.Scope.{withNames, tableAliases, columnAliases, ta
 abbrev none : ℕ
 none = 4294967295
 
+-- no name; and a name without quotes, which has the same range twice
+abbrev noName : List ℕ
+noName = none ∷ none ∷ none ∷ none ∷ []
+
+abbrev bare : ℕ → ℕ → List ℕ
+bare s e = s ∷ e ∷ s ∷ e ∷ []
+
 -- P: FROM a JOIN b gives a, b, b
 abbrev joined : List ℕ
 joined =
@@ -24,7 +31,7 @@ joined =
     ++ rec tableIdentifier 3 12 13 ++ rec bareWord 4 12 13
 
 joined-refs : map referenceRow (tableRefs [] joined 0)
-    ≡ (2 ∷ none ∷ none ∷ 5 ∷ 6 ∷ none ∷ none ∷ []) ∷ (5 ∷ none ∷ none ∷ 12 ∷ 13 ∷ none ∷ none ∷ []) ∷ (5 ∷ none ∷ none ∷ 12 ∷ 13 ∷ none ∷ none ∷ []) ∷ []
+    ≡ (2 ∷ noName ++ bare 5 6 ++ noName) ∷ (5 ∷ noName ++ bare 12 13 ++ noName) ∷ (5 ∷ noName ++ bare 12 13 ++ noName) ∷ []
 unfolding collection collected nodeGives ownWith ownColumns ownTables boundIn entry tableReading handOn listAlias aliased fresh firstNamed lastNamed binding nameOf unquoted isName isAs says text upper bytesOf isPart direct kids level from run recordAt word stretchEnd extent
 joined-refs = refl
 
@@ -48,7 +55,7 @@ both =
     rec selectStatement 0 0 19 ++ rec fromClause 1 0 19 ++ rec tableIdentifier 2 5 6 ++ rec bareWord 3 5 6 ++ rec tableAlias 2 7 8 ++ rec bareWord 3 7 8
     ++ rec subqueryExpression 2 9 19 ++ rec fromClause 3 10 18 ++ rec tableIdentifier 4 15 16 ++ rec bareWord 5 15 16 ++ rec tableAlias 4 17 18 ++ rec bareWord 5 17 18
 
-both-outer-refs : map referenceRow (tableRefs [] both 0) ≡ (2 ∷ none ∷ none ∷ 5 ∷ 6 ∷ 7 ∷ 8 ∷ []) ∷ []
+both-outer-refs : map referenceRow (tableRefs [] both 0) ≡ (2 ∷ noName ++ bare 5 6 ++ bare 7 8) ∷ []
 unfolding collection collected nodeGives ownWith ownColumns ownTables boundIn entry tableReading handOn listAlias aliased fresh firstNamed lastNamed binding nameOf unquoted isName isAs says text upper bytesOf isPart direct kids level from run recordAt word stretchEnd extent
 both-outer-refs = refl
 
@@ -56,7 +63,7 @@ both-outer-aliases : map bindingRow (tableAliases [] both 0) ≡ (7 ∷ 8 ∷ 7 
 unfolding collection collected nodeGives ownWith ownColumns ownTables boundIn entry tableReading handOn listAlias aliased fresh firstNamed lastNamed binding nameOf unquoted isName isAs says text upper bytesOf isPart direct kids level from run recordAt word stretchEnd extent
 both-outer-aliases = refl
 
-both-inner-refs : map referenceRow (tableRefs [] both 6) ≡ (8 ∷ none ∷ none ∷ 15 ∷ 16 ∷ 17 ∷ 18 ∷ []) ∷ []
+both-inner-refs : map referenceRow (tableRefs [] both 6) ≡ (8 ∷ noName ++ bare 15 16 ++ bare 17 18) ∷ []
 unfolding collection collected nodeGives ownWith ownColumns ownTables boundIn entry tableReading handOn listAlias aliased fresh firstNamed lastNamed binding nameOf unquoted isName isAs says text upper bytesOf isPart direct kids level from run recordAt word stretchEnd extent
 both-inner-refs = refl
 
@@ -101,13 +108,13 @@ chosen-aliases = refl
 abbrev quoted : List ℕ
 quoted = 70 ∷ 82 ∷ 79 ∷ 77 ∷ 32 ∷ 96 ∷ 100 ∷ 96 ∷ 46 ∷ 96 ∷ 116 ∷ 96 ∷ 32 ∷ 96 ∷ 114 ∷ 96 ∷ 32 ∷ 115 ∷ []
 
--- two aliases: the last stands in the reference, and both are listed; database and table names keep their quotes
+-- two aliases: the last stands in the reference, and both are listed. Database and table have their quotes in the outer range, and lose them in the inner one
 abbrev twice : List ℕ
 twice =
     rec fromClause 0 0 18 ++ rec tableIdentifier 1 5 12 ++ rec quotedIdentifier 2 5 8 ++ rec quotedIdentifier 2 9 12
     ++ rec tableAlias 1 13 16 ++ rec quotedIdentifier 2 13 16 ++ rec tableAlias 1 17 18 ++ rec bareWord 2 17 18
 
-twice-refs : map referenceRow (tableRefs quoted twice 0) ≡ (1 ∷ 5 ∷ 8 ∷ 9 ∷ 12 ∷ 17 ∷ 18 ∷ []) ∷ []
+twice-refs : map referenceRow (tableRefs quoted twice 0) ≡ (1 ∷ (5 ∷ 8 ∷ 6 ∷ 7 ∷ []) ++ (9 ∷ 12 ∷ 10 ∷ 11 ∷ []) ++ bare 17 18) ∷ []
 unfolding collection collected nodeGives ownWith ownColumns ownTables boundIn entry tableReading handOn listAlias aliased fresh firstNamed lastNamed binding nameOf unquoted isName isAs says text upper bytesOf isPart direct kids level from run recordAt word stretchEnd extent
 twice-refs = refl
 
@@ -121,7 +128,7 @@ waiting =
     rec fromClause 0 0 12 ++ rec tableIdentifier 1 5 6 ++ rec bareWord 2 5 6 ++ rec tableExpression 1 7 9 ++ rec tableAlias 2 8 9 ++ rec bareWord 3 8 9
     ++ rec tableIdentifier 2 7 8 ++ rec bareWord 3 7 8 ++ rec tableAlias 1 10 11 ++ rec bareWord 2 10 11
 
-waiting-refs : map referenceRow (tableRefs [] waiting 0) ≡ (6 ∷ none ∷ none ∷ 7 ∷ 8 ∷ none ∷ none ∷ []) ∷ (1 ∷ none ∷ none ∷ 5 ∷ 6 ∷ 10 ∷ 11 ∷ []) ∷ []
+waiting-refs : map referenceRow (tableRefs [] waiting 0) ≡ (6 ∷ noName ++ bare 7 8 ++ noName) ∷ (1 ∷ noName ++ bare 5 6 ++ bare 10 11) ∷ []
 unfolding collection collected nodeGives ownWith ownColumns ownTables boundIn entry tableReading handOn listAlias aliased fresh firstNamed lastNamed binding nameOf unquoted isName isAs says text upper bytesOf isPart direct kids level from run recordAt word stretchEnd extent
 waiting-refs = refl
 

@@ -9,7 +9,7 @@ use Rattle.report.proofs.output.put_list.Tie as tie
 
 abbrev Inv-loop : tie.InvT-loop
 Inv-loop out₀ at letter list k n m width next₀ from₀ left₀ out next from left =
-    ((next + 79 * left ≤ at + 79 * k) × (length out ≡ length out₀) × (from + left * (4 * (n + (m + m))) ≤ length list))
+    ((next + 145 * left ≤ at + 145 * k) × (length out ≡ length out₀) × (from + left * (4 * (n + (m + m))) ≤ length list))
     × Rest (printedWords letter n (n + (m + m)) list from left) out next (printedWords letter n (n + (m + m)) list 0 k) out₀ at
 
 abbrev μ-loop : tie.MeasureT-loop

@@ -49,7 +49,7 @@ collect-table-refs-below t =
 
 abbrev collect-table-refs-Inv-loop : collect-table-refs-lts.InvT-loop
 collect-table-refs-Inv-loop reads s base source out₀ at m next₀ pending₀ i₀ out next pending i =
-    ((1 ≤ i) × (i ≤ m) × (next + 56 ≤ at + 56 * i) × (length out ≡ length out₀))
+    ((1 ≤ i) × (i ≤ m) × (next + 104 ≤ at + 104 * i) × (length out ≡ length out₀))
     × Walk s base i (writing asRow (tableReading (rowsOf reads) source pending) out next) (writing asRow (tableReading (rowsOf reads) source Nothing) out₀ at (kids (records base s)))
 
 abbrev collect-table-refs-μ-loop : collect-table-refs-lts.MeasureT-loop
