@@ -40,12 +40,12 @@ extern "C" {
 
 /* The layout of records and entries that this header speaks of. Every file that includes it asks the archive for this one by name, so that a host
  * and an archive of two layouts do not link. Answer: the layout's number. */
-#define DESK_LAYOUT 2
-uint64_t desk_layout_2(void);
+#define DESK_LAYOUT 3
+uint64_t desk_layout_3(void);
 #if defined(__GNUC__)
 __attribute__((used))
 #endif
-static uint64_t (*const desk_layout)(void) = desk_layout_2;
+static uint64_t (*const desk_layout)(void) = desk_layout_3;
 
 #define DESK_RECORDS_MAX 4096
 #define DESK_DEPTH_MAX 63
@@ -61,8 +61,8 @@ static uint64_t (*const desk_layout)(void) = desk_layout_2;
 #define DESK_RECORD_BYTES 20    /* kind, depth, start, end, parent */
 #define DESK_CLASS_BYTES 12     /* start, end, class */
 #define DESK_OPENER_BYTES 4     /* record */
-#define DESK_BINDING_BYTES 24   /* token start, end; name start, end; definition start, end */
-#define DESK_REFERENCE_BYTES 28 /* record; database start, end; table start, end; alias start, end */
+#define DESK_BINDING_BYTES 24   /* token start, end; name start, end; definition start, end: a node's span, which may lie outside the source */
+#define DESK_REFERENCE_BYTES 52 /* record; then of database, table and alias, one after another: outer start, end; inner start, end */
 #define DESK_CONTEXT_BYTES 16   /* context; name start, end; argument index */
 #define DESK_ABOVE_BYTES 4      /* record */
 
@@ -158,12 +158,20 @@ static inline void desk_put_number(uint8_t *at, uint32_t n) {
 struct desk_range { uint32_t start, end; };
 struct desk_record { uint32_t kind, depth, start, end, parent; };
 struct desk_class_entry { struct desk_range token; uint32_t token_class; };
+/* A name as it stands in the source, and without a matching pair of backticks or double quotes. The same range twice where the token is no QuotedIdentifier,
+ * or its marks do not match, or it is a lone mark; absent twice where there is no name. Two names are one if the bytes of their inner ranges are. */
+struct desk_name { struct desk_range outer, inner; };
+/* The token is the name's outer range, the name its inner one. The definition is a node's span, any two numbers: it may lie outside the source, or end before
+ * it starts. Cut it by desk_cut_range before you read there. */
 struct desk_binding_entry { struct desk_range token, name, definition; };
-struct desk_reference_entry { uint32_t record; struct desk_range database, table, alias; };
+struct desk_reference_entry { uint32_t record; struct desk_name database, table, alias; };
 struct desk_context_entry { uint32_t context; struct desk_range name; uint32_t argument; };
 
 /* Is there no such range? */
 static inline int desk_absent(struct desk_range r) { return r.start == DESK_NONE && r.end == DESK_NONE; }
+
+/* Is there no such name? */
+static inline int desk_unnamed(struct desk_name n) { return desk_absent(n.outer); }
 
 /* A node's start or end as far as the source has it: from desk_cut of its start up to desk_cut of its end no span leads outside the source. */
 static inline size_t desk_cut(uint32_t at, size_t source_len) { return at < source_len ? at : source_len; }
@@ -180,6 +188,12 @@ static inline struct desk_range desk_get_range(const uint8_t *at) {
     return r;
 }
 static inline void desk_put_range(uint8_t *at, struct desk_range r) { desk_put_number(at, r.start); desk_put_number(at + 4, r.end); }
+
+static inline struct desk_name desk_get_name(const uint8_t *at) {
+    struct desk_name n = {desk_get_range(at), desk_get_range(at + 8)};
+    return n;
+}
+static inline void desk_put_name(uint8_t *at, struct desk_name n) { desk_put_range(at, n.outer); desk_put_range(at + 8, n.inner); }
 
 static inline struct desk_record desk_get_record(const uint8_t *table, size_t i) {
     const uint8_t *at = table + DESK_RECORD_BYTES * i;
@@ -207,12 +221,12 @@ static inline void desk_put_binding(uint8_t *out, size_t i, struct desk_binding_
 }
 static inline struct desk_reference_entry desk_get_reference(const uint8_t *out, size_t i) {
     const uint8_t *at = out + DESK_REFERENCE_BYTES * i;
-    struct desk_reference_entry e = {desk_get_number(at), desk_get_range(at + 4), desk_get_range(at + 12), desk_get_range(at + 20)};
+    struct desk_reference_entry e = {desk_get_number(at), desk_get_name(at + 4), desk_get_name(at + 20), desk_get_name(at + 36)};
     return e;
 }
 static inline void desk_put_reference(uint8_t *out, size_t i, struct desk_reference_entry e) {
     out += DESK_REFERENCE_BYTES * i; desk_put_number(out, e.record);
-    desk_put_range(out + 4, e.database); desk_put_range(out + 12, e.table); desk_put_range(out + 20, e.alias);
+    desk_put_name(out + 4, e.database); desk_put_name(out + 20, e.table); desk_put_name(out + 36, e.alias);
 }
 static inline struct desk_context_entry desk_get_context(const uint8_t *out, size_t i) {
     const uint8_t *at = out + DESK_CONTEXT_BYTES * i;

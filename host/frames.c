@@ -82,7 +82,7 @@ static void answer(uint32_t offset) {
     else say_number(statement);
     say("\n");
     desk_table_refs(table, table_len, source, source_len, 0, out, ROOM);
-    say_list("T", DESK_ANSWER(refs), 1, 3);
+    say_list("T", DESK_ANSWER(refs), 1, 6);
     say_list("K", DESK_ANSWER(desk_token_classes(table, table_len, source, source_len, out, ROOM)), 3, 0);
     say_list("O", DESK_ANSWER(desk_openers_left(table, table_len, source, source_len, out, ROOM)), 1, 0);
     say("E\n");

@@ -4,7 +4,7 @@
 #include <stdio.h>
 #include <string.h>
 
-enum { ROOM = 64, PAINT = 0x5a };
+enum { ROOM = 128, PAINT = 0x5a };
 static uint8_t bytes[ROOM];
 static unsigned wrong;
 
@@ -27,11 +27,12 @@ static int written(size_t at, size_t width, uint32_t from) {
 static void entries(void) {
     uint8_t *odd = bytes + 1;
     struct desk_range a = {0x81a2b3c4, 0x81a2b3c5}, b = {0x81a2b3c6, 0x81a2b3c7}, c = {0x81a2b3c8, 0x81a2b3c9};
-    struct desk_range d = {0x81a2b3c5, 0x81a2b3c6}, e = {0x81a2b3c7, 0x81a2b3c8}, f = {0x81a2b3c9, 0x81a2b3ca};
+    struct desk_range d = {0x81a2b3c5, 0x81a2b3c6};
+    struct desk_name g = {d, {0x81a2b3c7, 0x81a2b3c8}}, h = {{0x81a2b3c9, 0x81a2b3ca}, {0x81a2b3cb, 0x81a2b3cc}}, i = {{0x81a2b3cd, 0x81a2b3ce}, {0x81a2b3cf, 0x81a2b3d0}};
     struct desk_record r = {a.start, a.end, b.start, b.end, c.start};
     struct desk_class_entry k = {a, b.start};
     struct desk_binding_entry n = {a, b, c};
-    struct desk_reference_entry t = {a.start, d, e, f};
+    struct desk_reference_entry t = {a.start, g, h, i};
     struct desk_context_entry x = {a.start, d, b.end};
     paint(); desk_put_record(odd, 1, r); r = desk_get_record(odd, 1);
     expect("a record", written(21, DESK_RECORD_BYTES, a.start) && r.kind == a.start && r.depth == a.end);
@@ -41,8 +42,9 @@ static void entries(void) {
     paint(); desk_put_binding(odd, 1, n); n = desk_get_binding(odd, 1);
     expect("a binding", written(25, DESK_BINDING_BYTES, a.start) && n.token.end == a.end && n.name.end == b.end && n.definition.end == c.end);
     paint(); desk_put_reference(odd, 1, t); t = desk_get_reference(odd, 1);
-    expect("a reference", written(29, DESK_REFERENCE_BYTES, a.start) && t.record == a.start);
-    expect("a reference's names", t.database.end == d.end && t.table.end == e.end && t.alias.end == f.end);
+    expect("a reference", written(53, DESK_REFERENCE_BYTES, a.start) && t.record == a.start);
+    expect("a reference's names", t.database.outer.end == g.outer.end && t.table.outer.end == h.outer.end && t.alias.outer.end == i.outer.end);
+    expect("its names without quotes", t.database.inner.end == g.inner.end && t.table.inner.end == h.inner.end && t.alias.inner.end == i.inner.end);
     paint(); desk_put_context(odd, 2, x); x = desk_get_context(odd, 2);
     expect("a context", written(33, DESK_CONTEXT_BYTES, a.start) && x.context == a.start && x.name.end == d.end && x.argument == b.end);
     paint(); desk_put_opener(odd, 3, a.start);
@@ -57,7 +59,8 @@ static void cuts(void) {
     for (size_t i = 0; i < sizeof tried / sizeof *tried; i++) {
         struct desk_range cut = desk_cut_range(tried[i].given, 10);
         expect("a range cut to its source", cut.start == tried[i].cut.start && cut.end == tried[i].cut.end);
-        expect("an absent range", desk_absent(tried[i].given) == (i == 5));
+        struct desk_name name = {tried[i].given, tried[i].given};
+        expect("an absent range", desk_absent(tried[i].given) == (i == 5) && desk_unnamed(name) == (i == 5));
     }
 }
 

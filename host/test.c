@@ -143,9 +143,12 @@ static void cursors(void) {
     offsets_len = DESK_OFFSET_BYTES;
 }
 
+/* of a reference that has no database, or no alias */
+#define NO_NAME DESK_NONE, DESK_NONE, DESK_NONE, DESK_NONE
+
 static void answers(void) {
     static const uint32_t classes[] = {0, 6, 0, 7, 8, 6, 10, 14, 0, 15, 18, 9, 19, 20, 9}, column[] = {3, 7, 8, 0};
-    static const uint32_t reference[] = {12, DESK_NONE, DESK_NONE, 15, 18, 19, 20}, alias[] = {19, 20, 19, 20, 19, 20};
+    static const uint32_t reference[] = {12, NO_NAME, 15, 18, 15, 18, 19, 20, 19, 20}, alias[] = {19, 20, 19, 20, 19, 20};
     static const uint32_t from[] = {1, DESK_NONE, DESK_NONE, 0}, start[] = {11, DESK_NONE, DESK_NONE, 0};
     worked();
     expect("check", desk_check(table, used, source, source_len), 0, 0);
@@ -177,7 +180,7 @@ static void answers(void) {
     in_rooms("records_above", 0, NULL, 0, DESK_ABOVE_BYTES);
     in_room("records_above", 17, ROOM, 8, 0, NULL, 0);
     in_room("records_above", DESK_NONE, 0, 8, 0, NULL, 0);
-    expect("layout", desk_layout_2(), DESK_LAYOUT, 0);
+    expect("layout", desk_layout_3(), DESK_LAYOUT, 0);
     page("");
     record(1, 0, DESK_NONE, 0);
     expect("no source", desk_check(table, used, NULL, 0), 0, 0);
@@ -198,7 +201,7 @@ static void spring(void) {
     record(16, 5, 18, 29); record(131, 6, 18, 22); record(33, 6, 23, 27); record(131, 7, 23, 27); record(35, 6, 28, 29); record(131, 7, 28, 29);
     record(140, 4, 29, 30); record(16, 2, 31, 43); record(131, 3, 31, 35); record(33, 3, 36, 41); record(131, 4, 36, 41); record(35, 3, 42, 43);
     record(131, 4, 42, 43);
-    static const uint32_t inner[] = {14, DESK_NONE, DESK_NONE, 23, 27, 28, 29}, outer[] = {21, DESK_NONE, DESK_NONE, 36, 41, 42, 43};
+    static const uint32_t inner[] = {14, NO_NAME, 23, 27, 23, 27, 28, 29, 28, 29}, outer[] = {21, NO_NAME, 36, 41, 36, 41, 42, 43, 42, 43};
     expect("inner root", desk_cursor_root(table, used, source, source_len, 17), 0, 4);
     in_rooms("table_refs_at", 17, inner, 1, DESK_REFERENCE_BYTES);
     expect("outer root", desk_cursor_root(table, used, source, source_len, 36), 0, 1);
@@ -212,7 +215,7 @@ static void names(void) {
     record(131, 4, 7, 9); record(133, 4, 10, 11); record(15, 2, 12, 28); record(131, 3, 12, 18); record(137, 3, 19, 20); record(131, 3, 20, 21);
     record(36, 3, 22, 28); record(131, 4, 22, 24); record(132, 4, 25, 28); record(16, 2, 29, 37); record(131, 3, 29, 33); record(33, 3, 34, 37);
     record(131, 4, 34, 35); record(128, 4, 35, 36); record(131, 4, 36, 37);
-    static const uint32_t with[] = {5, 6, 5, 6, 5, 11}, column[] = {25, 28, 26, 27, 22, 28}, reference[] = {17, 34, 35, 36, 37, DESK_NONE, DESK_NONE};
+    static const uint32_t with[] = {5, 6, 5, 6, 5, 11}, column[] = {25, 28, 26, 27, 22, 28}, reference[] = {17, 34, 35, 34, 35, 36, 37, 36, 37, NO_NAME};
     static const uint32_t opener[] = {10};
     in_rooms("with_names", 0, with, 1, DESK_BINDING_BYTES);
     in_rooms("with_names_at", 20, with, 1, DESK_BINDING_BYTES);
@@ -221,6 +224,26 @@ static void names(void) {
     in_rooms("table_refs", 15, reference, 1, DESK_REFERENCE_BYTES);
     in_rooms("table_refs_at", 20, reference, 1, DESK_REFERENCE_BYTES);
     in_rooms("openers_left", 0, opener, 1, DESK_OPENER_BYTES);
+}
+
+/* Names with and without their quotes: of each, the outer range and the inner one. A lone mark, marks that do not match, a Quoted without marks and a bareword
+ * with marks have the same range twice. */
+static void quotes(void) {
+    page("FROM `a b`.\"c d\" AS `e f`");
+    record(16, 0, 0, 25); record(131, 1, 0, 4); record(33, 1, 5, 16); record(132, 2, 5, 10); record(128, 2, 10, 11); record(132, 2, 11, 16);
+    record(35, 1, 17, 25); record(131, 2, 17, 19); record(132, 2, 20, 25);
+    static const uint32_t reference[] = {2, 5, 10, 6, 9, 11, 16, 12, 15, 20, 25, 21, 24}, alias[] = {20, 25, 21, 24, 17, 25};
+    in_rooms("table_refs", 0, reference, 1, DESK_REFERENCE_BYTES);
+    in_rooms("table_aliases", 0, alias, 1, DESK_BINDING_BYTES);
+    static const struct { const char *text; uint32_t kind, cut; } names[] = {{"`a`", 132, 1}, {"\"a\"", 132, 1}, {"``", 132, 1}, {"`a`", 131, 0}, {"\"a\"", 131, 0},
+        {"`", 132, 0}, {"\"", 132, 0}, {"`a\"", 132, 0}, {"\"a`", 132, 0}, {"a`", 132, 0}, {"`a", 132, 0}, {"a", 132, 0}, {"'a'", 132, 0}, {"", 132, 0}};
+    for (size_t i = 0; i < sizeof names / sizeof *names; i++) {
+        uint32_t end = (uint32_t)strlen(names[i].text), cut = names[i].cut;
+        uint32_t expected[] = {1, 0, end, cut, end - cut, end, end, end, end, end, end, end, end}; /* its database, a table and an alias of no bytes */
+        page(names[i].text);
+        record(16, 0, 0, end); record(33, 1, 0, end); record(names[i].kind, 2, 0, end); record(131, 2, end, end); record(35, 1, end, end); record(131, 2, end, end);
+        in_rooms("table_refs", 0, expected, 1, DESK_REFERENCE_BYTES);
+    }
 }
 
 /* As many entries as a table can have: each record but the first is a classed token, then an opener. */
@@ -281,6 +304,7 @@ int main(void) {
     answers();
     spring();
     names();
+    quotes();
     longest_lists();
     refusals();
     if (!wrong) printf("%u replies as they must be\n", tried);

@@ -158,6 +158,19 @@ fn tables(out: &mut Inputs) {
     }
 }
 
+/// Names with and without their quotes, as a database, a table and an alias at once: a bareword and a Quoted of each text. The Rust stops at a lone mark as an alias.
+fn quotes(out: &mut Inputs) {
+    for name in ["a", "`a`", "\"a b\"", "``", "\"\"", "`", "\"", "`a", "a`", "`a\"", "\"a`", "`é`", "'a'", ""] {
+        let n = name.len() as u32;
+        for kind in [131, 132] {
+            let part = |depth, i| (kind, depth, n * i, n * (i + 1));
+            let recs = [(16, 0, 0, 9), (33, 1, 0, 9), part(2, 0), part(2, 1), (35, 1, 0, 9), part(2, 2)];
+            out.boundary(&made(&name.repeat(3), &recs), &[0]);
+            out.boundary(&made(&name.repeat(2), &recs[..5]), &[0]);
+        }
+    }
+}
+
 /// The cases that document 01 names.
 fn named_cases(out: &mut Inputs) {
     out.boundary(&made("", &[(1, 0, NONE, 0)]), &[0, 1, NONE]);
@@ -210,7 +223,7 @@ fn spans(out: &mut Inputs) {
     }
 }
 
-/// 4,096 bytes of source, 1,024 records, 585 references, and more.
+/// 4,096 bytes of source, 1,024 records, 315 references, and more.
 fn sizes(out: &mut Inputs) {
     for length in [4095, 4096, 4097, 5000] {
         let source = "é".repeat(length / 2) + &"x".repeat(length % 2);
@@ -221,12 +234,12 @@ fn sizes(out: &mut Inputs) {
         recs.extend((1..records).map(|i| if i % 7 == 0 { (137, 1, 0, 0) } else { (4, 1, i, i + 9) }));
         out.boundary(&made("", &recs), &[0, 500]);
     }
-    let ladder: Vec<u32> = (1..=33).collect();
-    for more in [23, 24, 25, 33] {
+    let ladder: Vec<u32> = (1..=24).collect();
+    for more in [14, 15, 16, 24] {
         out.boundary(&references(&[&ladder[..], &[more]].concat()), &[0]);
     }
-    out.boundary(&references(&[&[1][..], &[2; 292]].concat()), &[0]);
-    out.boundary(&references(&[2; 293]), &[0]);
+    out.boundary(&references(&[&[1][..], &[2; 157]].concat()), &[0]);
+    out.boundary(&references(&[2; 158]), &[0]);
     out.boundary(&references(&[60; 300]), &[0]);
 }
 
@@ -357,6 +370,7 @@ pub fn inputs(frames: usize, seed: u64) -> Vec<(&'static str, Vec<u8>)> {
     rules(&mut inputs);
     calls(&mut inputs);
     tables(&mut inputs);
+    quotes(&mut inputs);
     named_cases(&mut inputs);
     depths(&mut inputs);
     spans(&mut inputs);

@@ -94,6 +94,14 @@ static void show_bindings(const struct page *page, const char *what, question *a
     free(list.bytes);
 }
 
+static int quoted(struct desk_name n) { return n.outer.start != n.inner.start; }
+
+static void say_table(const struct page *page, struct desk_range database, struct desk_range table) {
+    if (!desk_absent(database)) { say_text(page, database); printf("."); }
+    say_text(page, table);
+}
+
+/* A table as it stands in the source, without its quotes where it has some, and its alias without them. */
 static void show_tables(const struct page *page, question *asked, uint32_t of) {
     struct list list = ask(page, asked, of, DESK_REFERENCE_BYTES);
     printf("  %-15s", "tables");
@@ -101,9 +109,9 @@ static void show_tables(const struct page *page, question *asked, uint32_t of) {
         struct desk_reference_entry e = desk_get_reference(list.bytes, i);
         if (again(&list, DESK_REFERENCE_BYTES, i)) continue;
         printf(i ? ", " : " ");
-        if (!desk_absent(e.database)) { say_text(page, e.database); printf("."); }
-        say_text(page, e.table);
-        if (!desk_absent(e.alias)) { printf(" as "); say_text(page, e.alias); }
+        say_table(page, e.database.outer, e.table.outer);
+        if (quoted(e.database) || quoted(e.table)) { printf(" ("); say_table(page, e.database.inner, e.table.inner); printf(")"); }
+        if (!desk_unnamed(e.alias)) { printf(" as "); say_text(page, e.alias.inner); }
     }
     printf(list.count ? "\n" : " -\n");
     free(list.bytes);

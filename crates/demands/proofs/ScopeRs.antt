@@ -11,12 +11,12 @@ use native.Mathlib.Omega.{arith}
 use borrow.Author.Tests.{eq-eqb, ne-eqb, lt-ltb, le-ltb, le-leb, lt-leb, ltb-true, leb-false}
 use lib.Dec.{leb, ltb, eqb}
 use Rattle.table.specs.declared.record.Rec.{Rec}
-use Rattle.table.specs.Table.{recordAt, records}
-use Rattle.forest.specs.Forest.{Forest, nil, token, node, kids}
+use Rattle.table.specs.Table.{recordAt, records, part}
+use Rattle.forest.specs.Forest.{Forest, nil, token, node, kids, stretchEnd}
 use Rattle.lent.proofs.Cases.{lt-or-le, both}
 use Rattle.table.specs.declared.range.Range.{Range}
+use Rattle.names.specs.declared.names.NameRanges.{NameRanges}
 use Rattle.names.specs.declared.names.NameBinding.{NameBinding}
-use Rattle.tables.specs.declared.pending.TableRef.{TableRef}
 use Rattle.names.specs.declared.names.Bound.{Bound}
 use Rattle.names.specs.declared.names.Bound.the-variants.{Unnamed, Named}
 use Rattle.tables.specs.declared.pending.Pending.{Pending}
@@ -26,12 +26,13 @@ use Rattle.statement.specs.declared.statement.Enclosing.the-variants.{Outside, 
 use Rattle.table.specs.Ranges.{span, holds}
 use Rattle.names.specs.Names.{byteAt, isAs, isPart, isName, direct, unquoted, nameOf, firstNamed, lastNamed, withItem, aliasIn, binding as bind}
 use Rattle.collection.specs.Collection.{nodeGives, collected, collection, ownWith, ownColumns, ownTables}
+use Rattle.scope.proofs.Lists.{collection-map, mapped, tables-map}
 use Rattle.names.specs.Bindings.{entry, boundIn, withItems, selectAliases}
 use Rattle.tables.specs.Tables.{fresh, aliased, Listing, handOn, listAlias, tableReading, references, aliases}
 use Rattle.statement.specs.Statement.{itself, isStatement, orElse, firstFind, enclosingAt}
 use Rattle.roots.proofs.Counts.{decide}
 use Rattle.demands.specs.Rust.{push}
-use Rattle.demands.specs.ScopeRs.{Str, at, stopsAt, Binding, Reference, QueryScope, pushCte, pushTableAlias, pushColumnAlias, pushTableRef, startsWith, endsWith, inner, unquote, saysAs, bindingOf, «extract_cte», Ident, «extract_alias_name», parts, byParts, «extract_table_identifier», pushIfCte, «collect_ctes», flush, setAlias, pushAlias, «collect_table_refs», pushIfAlias, «collect_column_aliases», arms, eachChild, «collect_scope», «build_scope», isStatementKind, orReturn, enclosing, deeperStatement, asRange, rangeOr, asBinding, reference, found, Lone, ScopeRs}
+use Rattle.demands.specs.ScopeRs.{Str, at, stopsAt, Binding, Reference, QueryScope, pushCte, pushTableAlias, pushColumnAlias, pushTableRef, startsWith, endsWith, inner, unquote, saysAs, bindingOf, «extract_cte», Ident, «extract_alias_name», parts, byParts, «extract_table_identifier», pushIfCte, «collect_ctes», flush, setAlias, pushAlias, «collect_table_refs», pushIfAlias, «collect_column_aliases», arms, eachChild, «collect_scope», «build_scope», isStatementKind, orReturn, enclosing, deeperStatement, asRange, rangeOr, asBinding, Compared, compared, reference, found, Lone, ScopeRs}
 use Rattle.demands.proofs.KindLists.{range-list}
 
 -- ---- names
@@ -123,13 +124,13 @@ sort k =
     (λ e. isBare (eq-eqb k 131 e) (ne-eqb k 132 (λ q. omega arith)))
     (λ e. decide k 132 (λ q. isQuoted e (eq-eqb k 132 q)) (λ q. isOther e q))
 
-name-bare : (src : List ℕ) (t : Rec) → eqb (t .kind) 132 ≡ false → nameOf src t ≡ span t
+name-bare : (src : List ℕ) (t : Rec) → eqb (t .kind) 132 ≡ false → nameOf src t ≡ record { outer = span t; inner = span t }
 unfolding nameOf
 name-bare src t e = rw e
 
-name-quoted : (src : List ℕ) (t : Rec) → eqb (t .kind) 132 ≡ true → nameOf src t ≡ asRange (unquote src (span t))
+name-quoted : (src : List ℕ) (t : Rec) → eqb (t .kind) 132 ≡ true → nameOf src t ≡ record { outer = span t; inner = asRange (unquote src (span t)) }
 unfolding nameOf
-name-quoted src t e = rw e (sym (unquote-same src (span t)))
+name-quoted src t e = rw (e, unquote-same src (span t))
 
 -- what a WITH item binds, as document 01 has it; and what the alias r does
 boundBy : Option Binding → Bound
@@ -141,9 +142,9 @@ identBy r none = Unnamed
 identBy r (some i) = Named (asBinding (bindingOf r (i .token) (i .name)))
 
 module _ (src : List ℕ) (r : Rec) where
-  -- a binding of the token t by a name
-  abbrev by : Rec → Range → Bound
-  by t n = Named (record { token = span t; name = n; definition = span r })
+  -- a binding by a name
+  abbrev by : NameRanges → Bound
+  by n = Named (record { token = n .outer; name = n .inner; definition = span r })
 
   abbrev names : Forest → List Rec
   names = direct (isName src)
@@ -156,8 +157,8 @@ module _ (src : List ℕ) (r : Rec) where
       go : Sort (t .kind) → (b : Bool) → saysAs src t ≡ b → boundBy («extract_cte» r rest src) ≡ firstNamed src r (names rest)
           → boundBy («extract_cte» r (token t rest) src) ≡ firstNamed src r (names (token t rest))
       go (isBare x y) true e ih = rw (x, y, e) ih
-      go (isBare x y) false e ih = rw (x, y, e) (ap (by t) (sym (name-bare src t y)))
-      go (isQuoted x y) b e ih = rw (x, y) (ap (by t) (sym (name-quoted src t y)))
+      go (isBare x y) false e ih = rw (x, y, e) (ap by (sym (name-bare src t y)))
+      go (isQuoted x y) b e ih = rw (x, y) (ap by (sym (name-quoted src t y)))
       go (isOther x y) b e ih = rw (x, y) ih
   cte-same (node q below rest) = cte-same rest
 
@@ -169,8 +170,8 @@ module _ (src : List ℕ) (r : Rec) where
       go : Sort (t .kind) → (b : Bool) → saysAs src t ≡ b → ((j : Option Ident) → identBy r («extract_alias_name» rest src j) ≡ lastNamed src r (identBy r j) (names rest))
           → identBy r («extract_alias_name» (token t rest) src i) ≡ lastNamed src r (identBy r i) (names (token t rest))
       go (isBare x y) true e ih = rw (x, y, e) (ih i)
-      go (isBare x y) false e ih = rw (x, y, e) (ih _ ∙ ap (λ (n : Range). lastNamed src r (by t n) (names rest)) (sym (name-bare src t y)))
-      go (isQuoted x y) b e ih = rw (x, y) (ih _ ∙ ap (λ (n : Range). lastNamed src r (by t n) (names rest)) (sym (name-quoted src t y)))
+      go (isBare x y) false e ih = rw (x, y, e) (ih _ ∙ ap (λ (n : NameRanges). lastNamed src r (by n) (names rest)) (sym (name-bare src t y)))
+      go (isQuoted x y) b e ih = rw (x, y) (ih _ ∙ ap (λ (n : NameRanges). lastNamed src r (by n) (names rest)) (sym (name-quoted src t y)))
       go (isOther x y) b e ih = rw (x, y) (ih i)
   alias-same (node q below rest) i = alias-same rest i
 
@@ -190,30 +191,35 @@ parts-same (token t rest) g = go (isPart t) refl (parts-same rest)
     go false e ih = ih g
 parts-same (node q below rest) g = parts-same rest g
 
--- what is pending
-pend : Option Reference → Pending
-pend none = Nothing
-pend (some r) = Held (reference r)
+-- what is pending is the same
+Pends : Option Reference → Pending → Type 0
+Pends none Nothing = Unit
+Pends none (Held t) = ⊥
+Pends (some r) Nothing = ⊥
+Pends (some r) (Held t) = reference r ≡ compared t
 
-fresh-same : (r : Rec) (ts : List Rec) → pend (byParts r (map (λ (t : Rec). at (span t)) ts)) ≡ fresh (r .index) ts
-unfolding pend byParts fresh reference rangeOr asRange
-fresh-same r [] = refl
-fresh-same r (t ∷ []) = refl
-fresh-same r (d ∷ t ∷ []) = refl
-fresh-same r (d ∷ t ∷ u ∷ more) = refl
+fresh-same : (src : List ℕ) (r : Rec) (ts : List Rec) → Pends (byParts r (map (λ (t : Rec). at (span t)) ts)) (fresh src (r .index) ts)
+unfolding Pends byParts fresh reference compared nameOf rangeOr asRange
+fresh-same src r [] = tt
+fresh-same src r (t ∷ []) = refl
+fresh-same src r (d ∷ t ∷ []) = refl
+fresh-same src r (d ∷ t ∷ u ∷ more) = tt
 
-identifier-same : (r : Rec) (f : Forest) → pend («extract_table_identifier» r f) ≡ fresh (r .index) (direct isPart f)
-identifier-same r f = rw (parts-same f []) (fresh-same r (direct isPart f))
+identifier-same : (src : List ℕ) (r : Rec) (f : Forest) → Pends («extract_table_identifier» r f) (fresh src (r .index) (direct isPart f))
+identifier-same src r f = rw (parts-same f []) (fresh-same src r (direct isPart f))
 
-aliased-same : (r : Rec) (p : Option Reference) (i : Option Ident) → pend (setAlias p i) ≡ aliased (pend p) (identBy r i)
-unfolding pend setAlias aliased identBy reference rangeOr asBinding
-aliased-same r none i = refl
-aliased-same r (some t) none = refl
-aliased-same r (some t) (some i) = refl
+aliased-same : (r : Rec) (p : Option Reference) (q : Pending) (i : Option Ident) → Pends p q → Pends (setAlias p i) (aliased q (identBy r i))
+unfolding Pends setAlias aliased identBy reference compared rangeOr asBinding
+aliased-same r none Nothing i w = tt
+aliased-same r none (Held u) i w = absurd w
+aliased-same r (some t) Nothing i w = absurd w
+aliased-same r (some t) (Held u) none w = w
+aliased-same r (some t) (Held u) (some i) w =
+    ap (λ (c : Compared). record { «record» = c .«record»; database = c .database; table = c .table; alias = asRange (i .name) }) w
 
 -- ---- what a part of the pass adds
 
-record Grown (s s′ : QueryScope) (w a c : List NameBinding) (r : List TableRef) : Type 0 where
+record Grown (s s′ : QueryScope) (w a c : List NameBinding) (r : List Compared) : Type 0 where
   ctes : map asBinding (s′ .ctes) ≡ map asBinding (s .ctes) ++ w
   tables : map asBinding (s′ .«table_aliases») ≡ map asBinding (s .«table_aliases») ++ a
   columns : map asBinding (s′ .«column_aliases») ≡ map asBinding (s .«column_aliases») ++ c
@@ -225,7 +231,7 @@ grown-none s = record { ctes = sym (append-nil _); tables = sym (append-nil _); 
 then-grown : {A : Type 0} (x : List A) {y z : List A} (u v : List A) → y ≡ x ++ u → z ≡ y ++ v → z ≡ x ++ (u ++ v)
 then-grown x u v p q = q ∙ rw p (append-assoc x u v)
 
-module _ {s s′ s″ : QueryScope} {w w′ a a′ c c′ : List NameBinding} {r r′ : List TableRef} where
+module _ {s s′ s″ : QueryScope} {w w′ a a′ c c′ : List NameBinding} {r r′ : List Compared} where
   grown-then : Grown s s′ w a c r → Grown s′ s″ w′ a′ c′ r′ → Grown s s″ (w ++ w′) (a ++ a′) (c ++ c′) (r ++ r′)
   grown-then p q =
       record {
@@ -249,18 +255,31 @@ column-grown s r none = grown-none s
 column-grown s r (some i) =
     record { ctes = sym (append-nil _); tables = sym (append-nil _); columns = map-append asBinding (s .«column_aliases») (bindingOf r (i .token) (i .name) ∷ []); refs = sym (append-nil _) }
 
-flush-grown : (s : QueryScope) (p : Option Reference) → Grown s (flush p s) [] (handOn aliases (pend p)) [] (handOn references (pend p))
-unfolding flush pushTableRef handOn pend
-flush-grown s none = grown-none s
-flush-grown s (some r) =
-    record { ctes = sym (append-nil _); tables = sym (append-nil _); columns = sym (append-nil _); refs = map-append reference (s .«table_refs») (r ∷ []) }
+-- the references of a reading, as they are compared
+abbrev compares : Listing Compared
+compares = mapped compared references
 
-alias-grown : (s : QueryScope) (r : Rec) (p : Option Reference) (i : Option Ident)
-    → Grown s (pushAlias p i r s) [] (listAlias aliases (pend p) (identBy r i)) [] (listAlias references (pend p) (identBy r i))
-unfolding pushAlias pushTableAlias listAlias pend identBy
-alias-grown s r none i = grown-none s
-alias-grown s r (some t) none = grown-none s
-alias-grown s r (some t) (some i) =
+flush-grown : (s : QueryScope) (p : Option Reference) (q : Pending) → Pends p q → Grown s (flush p s) [] (handOn aliases q) [] (handOn compares q)
+unfolding flush pushTableRef handOn Pends
+flush-grown s none Nothing w = grown-none s
+flush-grown s none (Held t) w = absurd w
+flush-grown s (some r) Nothing w = absurd w
+flush-grown s (some r) (Held t) w =
+    record {
+      ctes = sym (append-nil _);
+      tables = sym (append-nil _);
+      columns = sym (append-nil _);
+      refs = rw (← w) (map-append reference (s .«table_refs») (r ∷ []));
+    }
+
+alias-grown : (s : QueryScope) (r : Rec) (p : Option Reference) (q : Pending) (i : Option Ident) → Pends p q
+    → Grown s (pushAlias p i r s) [] (listAlias aliases q (identBy r i)) [] (listAlias compares q (identBy r i))
+unfolding pushAlias pushTableAlias listAlias Pends identBy
+alias-grown s r none Nothing i w = grown-none s
+alias-grown s r none (Held u) i w = absurd w
+alias-grown s r (some t) Nothing i w = absurd w
+alias-grown s r (some t) (Held u) none w = grown-none s
+alias-grown s r (some t) (Held u) (some i) w =
     record { ctes = sym (append-nil _); tables = map-append asBinding (s .«table_aliases») (bindingOf r (i .token) (i .name) ∷ []); columns = sym (append-nil _); refs = sym (append-nil _) }
 
 -- ---- the collections
@@ -314,21 +333,21 @@ module _ (src : List ℕ) where
 
   -- what the reading of f with q pending adds
   abbrev Read : Pending → Forest → QueryScope → QueryScope → Type 0
-  Read q f s s′ = Grown s s′ [] (tableReading aliases src q f) [] (tableReading references src q f)
+  Read q f s s′ = Grown s s′ [] (tableReading aliases src q f) [] (tableReading compares src q f)
 
-  module _ (r : Rec) (below rest : Forest) (p : Option Reference) (s : QueryScope)
-      (ib : (s : QueryScope) → Read (pend none) below s («collect_table_refs» none below src s))
-      (ir : (q : Option Reference) (s : QueryScope) → Read (pend q) rest s («collect_table_refs» q rest src s)) where
+  module _ (r : Rec) (below rest : Forest) (p : Option Reference) (q : Pending) (w : Pends p q) (s : QueryScope)
+      (ib : (s : QueryScope) → Read Nothing below s («collect_table_refs» none below src s))
+      (ir : (p : Option Reference) (q : Pending) → Pends p q → (s : QueryScope) → Read q rest s («collect_table_refs» p rest src s)) where
     abbrev alias : Option Ident
     alias = «extract_alias_name» below src none
 
     -- what a node gives, by its kind
     abbrev listed : {E : Type 0} → Listing E → Bool → Bool → Bool → Bool → List E
     listed L a b c d =
-        cond a (handOn L (pend p) ++ tableReading L src (fresh (r .index) (direct isPart below)) rest)
-        (cond b (listAlias L (pend p) (aliasIn src r below) ++ tableReading L src (aliased (pend p) (aliasIn src r below)) rest)
-        (cond c (tableReading L src Nothing below ++ tableReading L src (pend p) rest)
-        (cond d (handOn L (pend p) ++ (tableReading L src Nothing below ++ tableReading L src Nothing rest)) (tableReading L src (pend p) rest))))
+        cond a (handOn L q ++ tableReading L src (fresh src (r .index) (direct isPart below)) rest)
+        (cond b (listAlias L q (aliasIn src r below) ++ tableReading L src (aliased q (aliasIn src r below)) rest)
+        (cond c (tableReading L src Nothing below ++ tableReading L src q rest)
+        (cond d (handOn L q ++ (tableReading L src Nothing below ++ tableReading L src Nothing rest)) (tableReading L src q rest))))
 
     abbrev pushed : Bool → Bool → Bool → Bool → QueryScope
     pushed a b c d =
@@ -337,36 +356,36 @@ module _ (src : List ℕ) where
         (cond c («collect_table_refs» p rest src («collect_table_refs» none below src s))
         (cond d («collect_table_refs» none rest src («collect_table_refs» none below src (flush p s))) («collect_table_refs» p rest src s))))
 
-    node-grown : (a b c d : Bool) → Grown s (pushed a b c d) [] (listed aliases a b c d) [] (listed references a b c d)
-    unfolding pend
-    node-grown true b c d = rw (← identifier-same r below) (grown-then (flush-grown s p) (ir _ (flush p s)))
+    node-grown : (a b c d : Bool) → Grown s (pushed a b c d) [] (listed aliases a b c d) [] (listed compares a b c d)
+    unfolding Pends
+    node-grown true b c d = grown-then (flush-grown s p q w) (ir _ _ (identifier-same src r below) (flush p s))
     node-grown false true c d =
-        rw (← alias-none src r below, ← aliased-same r p alias) (grown-then (alias-grown s r p alias) (ir _ (pushAlias p alias r s)))
-    node-grown false false true d = grown-then (ib s) (ir p _)
-    node-grown false false false true = grown-then (flush-grown s p) (grown-then (ib (flush p s)) (ir none _))
-    node-grown false false false false = ir p s
+        rw (← alias-none src r below) (grown-then (alias-grown s r p q alias w) (ir _ _ (aliased-same r p q alias w) (pushAlias p alias r s)))
+    node-grown false false true d = grown-then (ib s) (ir p q w _)
+    node-grown false false false true = grown-then (flush-grown s p q w) (grown-then (ib (flush p s)) (ir none Nothing tt _))
+    node-grown false false false false = ir p q w s
 
-  tables-grown : (f : Forest) (p : Option Reference) (s : QueryScope) → Read (pend p) f s («collect_table_refs» p f src s)
-  unfolding «collect_table_refs» tableReading
-  tables-grown nil p s = flush-grown s p
-  tables-grown (token t rest) p s = tables-grown rest p s
-  tables-grown (node r below rest) p s =
-      node-grown r below rest p s (tables-grown below none) (tables-grown rest) (eqb (r .kind) 33) (eqb (r .kind) 35) (eqb (r .kind) 34) (eqb (r .kind) 17)
+  tables-grown : (f : Forest) (p : Option Reference) (q : Pending) → Pends p q → (s : QueryScope) → Read q f s («collect_table_refs» p f src s)
+  unfolding «collect_table_refs» tableReading Pends
+  tables-grown nil p q w s = flush-grown s p q w
+  tables-grown (token t rest) p q w s = tables-grown rest p q w s
+  tables-grown (node r below rest) p q w s =
+      node-grown r below rest p q w s (tables-grown below none Nothing tt) (tables-grown rest) (eqb (r .kind) 33) (eqb (r .kind) 35) (eqb (r .kind) 34) (eqb (r .kind) 17)
 
   -- ---- a node's own part, and its children's
 
   abbrev All : QueryScope → QueryScope → Forest → Type 0
-  All s s′ f = Grown s s′ (collected (ownWith src) f) (collected (ownTables aliases src) f) (collected (ownColumns src) f) (collected (ownTables references src) f)
+  All s s′ f = Grown s s′ (collected (ownWith src) f) (collected (ownTables aliases src) f) (collected (ownColumns src) f) (collected (ownTables compares src) f)
 
   module _ (k : ℕ) (f : Forest) (s : QueryScope) (ih : (s : QueryScope) → All s (eachChild f src s) f) where
     abbrev visited : {E : Type 0} → (ℕ → Forest → List E) → List E
     visited own = nodeGives own k f (collected own f)
 
     clause-grown : Clause k → Grown s (cond (eqb k 14) («collect_ctes» f src s) (eachChild f src (arms k f src s)))
-        (visited (ownWith src)) (visited (ownTables aliases src)) (visited (ownColumns src)) (visited (ownTables references src))
-    unfolding nodeGives ownWith ownTables ownColumns arms pend
+        (visited (ownWith src)) (visited (ownTables aliases src)) (visited (ownColumns src)) (visited (ownTables compares src))
+    unfolding nodeGives ownWith ownTables ownColumns arms Pends
     clause-grown (isWith a b c) = rw (a, b, c, append-nil (withItems src f)) (ctes-grown f s)
-    clause-grown (isTables a b c) = rw (a, b, c) (grown-then (tables-grown f none s) (ih _))
+    clause-grown (isTables a b c) = rw (a, b, c) (grown-then (tables-grown f none Nothing tt s) (ih _))
     clause-grown (isSelect a b c) = rw (a, b, c) (grown-then (columns-grown f s) (ih _))
     clause-grown (isNone a b c) = rw (a, b, c) (ih s)
 
@@ -377,12 +396,12 @@ module _ (src : List ℕ) where
   each-grown (node r below rest) s =
       grown-then (go (eqb (r .kind) 30) (clause-grown (r .kind) below s (each-grown below) (clause (r .kind)))) (each-grown rest _)
     where
-      go : (b : Bool) {s′ : QueryScope} {w a c : List NameBinding} {x : List TableRef} → Grown s s′ w a c x → Grown s (cond b s s′) (cond b [] w) (cond b [] a) (cond b [] c) (cond b [] x)
+      go : (b : Bool) {s′ : QueryScope} {w a c : List NameBinding} {x : List Compared} → Grown s s′ w a c x → Grown s (cond b s s′) (cond b [] w) (cond b [] a) (cond b [] c) (cond b [] x)
       go true g = grown-none s
       go false g = g
 
   built : (r : Rec) (f : Forest) → Grown (record { ctes = []; «table_aliases» = []; «column_aliases» = []; «table_refs» = [] }) («build_scope» r f src)
-      (collection (ownWith src) r f) (collection (ownTables aliases src) r f) (collection (ownColumns src) r f) (collection (ownTables references src) r f)
+      (collection (ownWith src) r f) (collection (ownTables aliases src) r f) (collection (ownColumns src) r f) (collection (ownTables compares src) r f)
   unfolding «build_scope» «collect_scope» collection
   built r f = clause-grown (r .kind) f _ (each-grown f) (clause (r .kind))
 
@@ -439,7 +458,7 @@ scope-rs source t =
       with-names = λ i. built source _ _ .ctes;
       table-aliases = λ i. built source _ _ .tables;
       column-aliases = λ i. built source _ _ .columns;
-      table-refs = λ i. built source _ _ .refs;
+      table-refs = λ i. built source _ _ .refs ∙ collection-map compared (ownTables references source) (ownTables compares source) (tables-map compared references source) (part t i (stretchEnd t i)) i;
       stops = λ s. (stops→ source s, stops← source s);
       enclosing-statement = λ o. held-same (recordAt t 0 0) o _ ∙ rw (deeper-same (kids (records 0 t)) o) (sym (or-outside _));
     }

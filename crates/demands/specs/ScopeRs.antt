@@ -286,7 +286,18 @@ rangeOr (some s) = asRange s
 unfoldable pub asBinding : Binding → NameBinding
 asBinding b = record { token = b .range; name = asRange (b .name); definition = b .«definition_range» }
 
-unfoldable pub reference : Reference → TableRef
+-- what is compared of a reference: the Rust has one range of each name
+pub record Compared : Type 0 where
+  pub «record» : ℕ
+  pub database : Range
+  pub table : Range
+  pub alias : Range
+
+-- document 02 §3: the outer range for databases and tables, the inner one for the rest
+unfoldable pub compared : TableRef → Compared
+compared e = record { «record» = e .«record»; database = e .database .outer; table = e .table .outer; alias = e .alias .inner }
+
+unfoldable pub reference : Reference → Compared
 reference r = record { «record» = r .tree .index; database = rangeOr (r .database); table = asRange (r .table); alias = rangeOr (r .alias) }
 
 unfoldable pub found : Option Rec → Enclosing
@@ -307,6 +318,6 @@ pub record ScopeRs (source t : List ℕ) : Type 0 where
   pub with-names : (i : ℕ) → map asBinding (scopeAt source t i .ctes) ≡ withNames source t i
   pub table-aliases : (i : ℕ) → map asBinding (scopeAt source t i .«table_aliases») ≡ tableAliases source t i
   pub column-aliases : (i : ℕ) → map asBinding (scopeAt source t i .«column_aliases») ≡ columnAliases source t i
-  pub table-refs : (i : ℕ) → map reference (scopeAt source t i .«table_refs») ≡ tableRefs source t i
+  pub table-refs : (i : ℕ) → map reference (scopeAt source t i .«table_refs») ≡ map compared (tableRefs source t i)
   pub stops : (s : Range) → (unquote source s ≡ stopsAt s) ↔ Lone source s
   pub enclosing-statement : (o : ℕ) → found («find_enclosing_statement» (recordAt t 0 0) (kids (records 0 t)) o) ≡ enclosingAt t o

@@ -124,8 +124,12 @@ table =
 abbrev that : Asked
 that = asked table source [] cursor [] 0 []
 
-abbrev noRange : ℕ
-noRange = absentNumber
+-- no name; and a name without quotes, which has the same range twice
+abbrev noName : List ℕ
+noName = absentNumber ∷ absentNumber ∷ absentNumber ∷ absentNumber ∷ []
+
+abbrev bare : ℕ → ℕ → List ℕ
+bare s e = s ∷ e ∷ s ∷ e ∷ []
 
 -- the table is admitted, and the three names are one word
 that-morning : (verdict table (length source) 0 ≡ Admitted) × (text source 22 23 ≡ text source 46 47) × (text source 58 59 ≡ text source 46 47)
@@ -139,13 +143,13 @@ typed = refl
 
 -- before: the outer query's r, which is of labs
 before : (matter TableAliases that .said ≡ rows ((22 ∷ 23 ∷ 22 ∷ 23 ∷ 22 ∷ 23 ∷ []) ∷ []))
-    × (matter TableRefs that .said ≡ rows ((10 ∷ noRange ∷ noRange ∷ 17 ∷ 21 ∷ 22 ∷ 23 ∷ []) ∷ []))
+    × (matter TableRefs that .said ≡ rows ((10 ∷ noName ++ bare 17 21 ++ bare 22 23) ∷ []))
 unfolding matter collection collected nodeGives ownTables tableReading handOn listAlias aliased fresh lastNamed binding nameOf unquoted isName isAs says text upper bytesOf isPart direct kids level from run recordAt word stretchEnd extent
 before = (refl, refl)
 
 -- now: the inner query's r, which is of raw, and nothing else
 now : (matter TableAliasesAt that .said ≡ rows ((58 ∷ 59 ∷ 58 ∷ 59 ∷ 58 ∷ 59 ∷ []) ∷ []))
-    × (matter TableRefsAt that .said ≡ rows ((31 ∷ noRange ∷ noRange ∷ 54 ∷ 57 ∷ 58 ∷ 59 ∷ []) ∷ []))
+    × (matter TableRefsAt that .said ≡ rows ((31 ∷ noName ++ bare 54 57 ++ bare 58 59) ∷ []))
 unfolding matter collection collected nodeGives ownTables tableReading handOn listAlias aliased fresh lastNamed binding nameOf unquoted isName isAs says text upper bytesOf isPart direct kids level from run recordAt word stretchEnd extent path pathOf orElse firstFind enclosingAt deepestOr statementOr rootOf rootAt
 now = (refl, refl)
 

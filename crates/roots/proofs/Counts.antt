@@ -58,12 +58,12 @@ module _ (w : ℕ → ℕ) where
   abbrev pub weight : List TableRef → ℕ
   weight = sum (λ (e : TableRef). w (e .«record»))
 
-  weight-fresh : (x : ℕ) (parts : List Rec) → weight (handOn references (fresh x parts)) ≡ cond (oneOrTwo parts) (w x) 0
+  weight-fresh : (src : List ℕ) (x : ℕ) (parts : List Rec) → weight (handOn references (fresh src x parts)) ≡ cond (oneOrTwo parts) (w x) 0
   unfolding fresh handOn sum oneOrTwo
-  weight-fresh x [] = refl
-  weight-fresh x (t ∷ []) = omega arith
-  weight-fresh x (d ∷ t ∷ []) = omega arith
-  weight-fresh x (d ∷ t ∷ u ∷ more) = refl
+  weight-fresh src x [] = refl
+  weight-fresh src x (t ∷ []) = omega arith
+  weight-fresh src x (d ∷ t ∷ []) = omega arith
+  weight-fresh src x (d ∷ t ∷ u ∷ more) = refl
 
   weight-aliased : (p : Pending) (b : Bound) → weight (handOn references (aliased p b)) ≡ weight (handOn references p)
   unfolding aliased handOn sum
@@ -99,8 +99,8 @@ module _ (w : ℕ → ℕ) where
         rw (e, add (handOn references p) (read Nothing below ++ read Nothing rest), add (read Nothing below) (read Nothing rest)) (omega (arith, ib, ir Nothing, weight-idle))
     read-node r below rest p (isSub e) ib ir = rw e (omega (arith, ir p))
     read-node r below rest p (isTable e) ib ir =
-        rw (e, add (handOn references p) (read (fresh (r .index) (direct isPart below)) rest))
-        (omega (arith, ir (fresh (r .index) (direct isPart below)), weight-fresh (r .index) (direct isPart below)))
+        rw (e, add (handOn references p) (read (fresh src (r .index) (direct isPart below)) rest))
+        (omega (arith, ir (fresh src (r .index) (direct isPart below)), weight-fresh src (r .index) (direct isPart below)))
     read-node r below rest p (isNest e) ib ir = rw (e, add (read Nothing below) (read p rest)) (omega (arith, ib, ir p, weight-idle))
     read-node r below rest p (isAlias e) ib ir =
         rw (

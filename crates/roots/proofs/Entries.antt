@@ -89,7 +89,7 @@ module _ (t : List ℕ) where
     unfolding Waits
     idles e w = w
 
-    started : (i : ℕ) (parts : List Rec) (e : TableRef) → Waits (fresh i parts) e → i ≡ e .«record»
+    started : (i : ℕ) (parts : List Rec) (e : TableRef) → Waits (fresh src i parts) e → i ≡ e .«record»
     unfolding fresh Waits
     started i [] e w = absurd w
     started i (a ∷ []) e w = w

@@ -156,7 +156,7 @@ module _ (t : List ℕ) where
       (hand : (p : Pending) (e : E) → List·Memᴰ e (handOn L p) → Pends p e)
       (keep : (p : Pending) (b : Bound) (e : E) → Pends (aliased p b) e → Pends p e)
       (idle : (e : E) → Pends Nothing e → ⊥)
-      (name-is : (r : Rec) (f : Forest) (e : E) → r .kind ≡ tableIdentifier → Pends (fresh (r .index) (direct isPart f)) e → is e r f)
+      (name-is : (r : Rec) (f : Forest) (e : E) → r .kind ≡ tableIdentifier → Pends (fresh src (r .index) (direct isPart f)) e → is e r f)
       (alias-is : (p : Pending) (r : Rec) (f : Forest) (e : E) → r .kind ≡ tableAlias → List·Memᴰ e (listAlias L p (aliasIn src r f)) → is e r f) where
     abbrev read : Pending → Forest → List E
     read = tableReading L src
@@ -173,7 +173,7 @@ module _ (t : List ℕ) where
         go : (a b c d : Bool) → eqb (r .kind) tableIdentifier ≡ a → eqb (r .kind) tableAlias ≡ b → eqb (r .kind) tableExpression ≡ c → eqb (r .kind) joinClause ≡ d
             → (List·Memᴰ e (read Nothing f) → Met is (r .index + 1) (stretchEnd t (r .index)) e)
             → ((q : Pending) → List·Memᴰ e (read q rest) → Pends q e ⊎ Met is lo hi e)
-            → List·Memᴰ e (cond a (handOn L p ++ read (fresh (r .index) (direct isPart f)) rest)
+            → List·Memᴰ e (cond a (handOn L p ++ read (fresh src (r .index) (direct isPart f)) rest)
             (cond b (listAlias L p (aliasIn src r f) ++ read (aliased p (aliasIn src r f)) rest)
             (cond c (read Nothing f ++ read p rest) (cond d (handOn L p ++ (read Nothing f ++ read Nothing rest)) (read p rest)))))
             → Pends p e ⊎ Met is lo hi e
@@ -184,7 +184,7 @@ module _ (t : List ℕ) where
             ⊎-elim
             (λ i. inr (met-here is lo hi r f e (w .0) (w .1) (not-subquery (λ k. eqb k tableIdentifier) (r .kind) x refl) (name-is r f e (eqb-true (r .kind) tableIdentifier x) i)))
             inr
-            (on (fresh (r .index) (direct isPart f)) n))
+            (on (fresh src (r .index) (direct isPart f)) n))
             (List·Memᴰ·append-cases (handOn L p) m)
         go false true c d x y z u down on m =
             ⊎-elim

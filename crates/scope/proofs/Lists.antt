@@ -58,13 +58,13 @@ module _ {E F : Type 0} (row : E → F) (own : ℕ → Forest → List E) (own�
       go true xs = refl
       go false xs = sym (map-append row xs (collected own rest))
 
-  collection-map : (s : List ℕ) (base : ℕ) → collectionOf own′ base s ≡ map row (collectionOf own base s)
+  pub collection-map : (s : List ℕ) (base : ℕ) → collectionOf own′ base s ≡ map row (collectionOf own base s)
   unfolding collection
   collection-map s base = rw (collected-map (kids (records base s))) (entered-map (recordAt s base 0 .kind) (kids (records base s)) (collected own (kids (records base s))))
 
 module _ {E F : Type 0} (row : E → F) (L : Listing E) where
   -- what is listed, mapped
-  abbrev mapped : Listing F
+  abbrev pub mapped : Listing F
   mapped = record { reference = λ t. map row (L .reference t); alias = λ b. map row (L .alias b) }
 
   hand-map : (p : Pending) → handOn mapped p ≡ map row (handOn L p)
@@ -101,7 +101,7 @@ module _ {E F : Type 0} (row : E → F) (L : Listing E) where
           rw (hand-map p, i, o Nothing, map-append row (handOn L p) (tableReading L src Nothing below ++ tableReading L src Nothing rest), map-append row (tableReading L src Nothing below) (tableReading L src Nothing rest))
       go false false false false i o = o p
 
-  tables-map : (src : List ℕ) (k : ℕ) (f : Forest) → ownTables mapped src k f ≡ map row (ownTables L src k f)
+  pub tables-map : (src : List ℕ) (k : ℕ) (f : Forest) → ownTables mapped src k f ≡ map row (ownTables L src k f)
   unfolding ownTables
   tables-map src k f = rw (reading-map src Nothing f) (go (eqb k fromClause || eqb k joinClause))
     where
