@@ -1,3 +1,4 @@
 pub mod Bindings
 pub mod Names
 pub mod inner
+pub mod worked

@@ -53,9 +53,9 @@ isMark b = eqb b 96 || eqb b 34
 -- the text between start and end without a matching pair of marks; a lone mark is kept, and marks that do not match
 unfoldable pub unquoted : List ℕ → ℕ → ℕ → Range
 unquoted src start end =
-    let between : Range = record { start = start + 1; end = end - 1 } in
+    let within : Range = record { start = start + 1; end = end - 1 } in
     let whole : Range = record { start = start; end = end } in
-    cond (leb 2 (end - start) && (isMark (byteAt src start) && eqb (byteAt src (end - 1)) (byteAt src start))) between whole
+    cond (leb 2 (end - start) && (isMark (byteAt src start) && eqb (byteAt src (end - 1)) (byteAt src start))) within whole
 
 -- the name that a token gives. Outer: the token's range. Inner: a Quoted loses its quotes; a name that is no Quoted has the same range twice
 unfoldable pub nameOf : List ℕ → Rec → NameRanges
