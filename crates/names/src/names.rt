@@ -105,15 +105,14 @@ pub fn name_of(source: &[u8], t: Rec) -> NameRanges
     ensures { λ r. ⌜ r ≡ nameOf (now (source .entry)) t ⌝ }
 {
     let outer = span_of(t);
-    if t.kind == QUOTED_IDENTIFIER {
-        let inner = unquote(source, t.start, t.end);
-        NameRanges { outer, inner }
-    } else {
-        NameRanges {
+    if t.kind != QUOTED_IDENTIFIER {
+        return NameRanges {
             outer,
             inner: outer,
-        }
+        };
     }
+    let inner = unquote(source, t.start, t.end);
+    NameRanges { outer, inner }
 }
 
 // The name where there is none.

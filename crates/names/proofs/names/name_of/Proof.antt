@@ -1,4 +1,5 @@
 use Rattle.names.specs.Names.{nameOf}
+use native.Mathlib.Omega.{arith}
 use borrow.Author.Tests.{eq-eqb, ne-eqb}
 use borrow.Author.Needs.{needs}
 use Rattle.names.proofs.names.name_of.Statement.{statement}
@@ -10,6 +11,6 @@ name-of-spec =
     tie.close
     (tie.spec
     (λ c κs. search needs)  -- span-of-requires
+    (λ c. rw (ne-eqb (c .before .before .before .before .args .t .kind) 132 (omega arith), c .before .before .span-of .ensures))  -- returns
     (λ c κs. search needs)  -- unquote-requires
-    (λ c. rw (eq-eqb _ 132 (c .before .if1 .taken), c .before .before .before .span-of .ensures, c .unquote .ensures))  -- returns
-    (λ c. rw (ne-eqb _ 132 (c .if1 .left), c .before .before .span-of .ensures)))  -- returns-2
+    (λ c. rw (eq-eqb (c .before .before .before .before .before .args .t .kind) 132 (omega arith), c .before .before .before .span-of .ensures, c .unquote .ensures)))  -- returns-2
