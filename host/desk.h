@@ -10,7 +10,7 @@
  * node before its children. The parent is the number of the nearest earlier record whose depth is one less; record 0 carries 0.
  * The source: the bytes that the spans speak of. An offset may be any number.
  * A node's span may be any two numbers, and so may a binding's definition range, which is a node's span: both may lie outside the source. Take the text
- * by desk_cut_range, never unchecked. All other ranges that are answered are tokens' and lie inside the source, or are absent.
+ * by desk_cut_range, never unchecked. All other ranges that are answered are tokens', with or without quotes, and lie inside the source, or are absent.
  *
  * A reply is one number, of two halves. Low half: 0, or the number of the refusal. High half: the answer, or the refusal's detail.
  * A refused call leaves every byte of `out` as it was. How long a list is: ask with out_len 0. The reply is refusal 7 with the count for its detail, or
