@@ -19,7 +19,8 @@ use Rattle.replies.specs.Reply.{packed, answered}
 use Rattle.demands.specs.declared.Question.the-variants.{CursorContext, CursorContexts}
 use Rattle.demands.specs.Questions.{Asked, Matter, matter, answerOf, saidBytes}
 use Rattle.demands.specs.Demand1.{Missing, Holds, of-table, of-offsets, of-name, of-room, placeIn, First, Refusal, Answer}
-use Rattle.demands.specs.OneByOne.{Meets, contextBytes, entryAt, SinglyAt, Alike, RefusedAlike, OneByOne}
+use Rattle.demands.specs.Demand2.{Meets}
+use Rattle.demands.specs.OneByOne.{contextBytes, entryAt, SinglyAt, Alike, RefusedAlike, OneByOne}
 use Rattle.demands.proofs.Offsets.{no-offsets}
 use Rattle.demands.proofs.Replies.{answered-free, rows-bytes}
 

@@ -7,15 +7,10 @@ use mathlib.Core.List.{List}
 use lib.ListN.{length, getD, take, drop}
 use Rattle.replies.specs.Reply.{packed, answered}
 use Rattle.cursors.specs.Cursors.{offsetsOf}
-use Rattle.demands.specs.declared.Question.{Question}
 use Rattle.demands.specs.declared.Question.the-variants.{CursorContext, CursorContexts}
 use Rattle.demands.specs.Questions.{Asked}
-use Rattle.demands.specs.Demand1.{Answer, Refusal, Demand1}
-use Rattle.demands.specs.Demand2.{Demand2}
-
--- a reply and a buffer that meet both demands
-abbrev pub Meets : Question → Asked → ℕ → List ℕ → Type 0
-Meets q a reply out = Demand1 q a reply out × Demand2 q a reply out
+use Rattle.demands.specs.Demand1.{Answer, Refusal}
+use Rattle.demands.specs.Demand2.{Meets}
 
 -- how many bytes the entry of a context takes, and those of entry i
 abbrev pub contextBytes : ℕ

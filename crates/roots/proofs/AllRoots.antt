@@ -1,52 +1,40 @@
--- Demand 3: over all roots' reference lists together, a table name of one or two parts appears only under its nearest root above, once
--- for each FROM or JOIN that reaches it, and nothing else appears. Said of the replies and the bytes alone.
+-- The reference lists of all roots, read back from the bytes of their buffers:
+--     its-node       a root is a node of the table, as the question names it
+--     its-list       what the question at a root lists is what `Exact` speaks of
+--     shown-list     the record numbers in the bytes are the list's
+--     shown-times    so each number stands there as often as `Exact` says
 -- Assumes nothing.
-use Prim.Native.Nat.{ℕ, zero, suc, _+_, _-_, _*_, _/_, _%_, _≤_, _<_}
+use Prim.Native.Nat.{ℕ, _+_, _*_, _/_, _%_, _≤_, _<_}
 use mathlib.Core.Path.{_≡_, refl, sym, ap, _∙_}
 use mathlib.Core.Bool.{Bool, true, false, cond}
 use mathlib.Core.List.{List, [], _∷_, _++_, map, append-assoc, List·Memᴰ, List·Memᴰ·head, List·Memᴰ·tail}
 use mathlib.Core.Logic.{⊎-elim}
 use native.Mathlib.Omega.{arith}
 use native.Mathlib.Nat.{zero-add, div-div-eq-div-mul, div-add-mod', mod-eq-of-lt}
-use borrow.Author.Tests.{eq-eqb}
-use lib.Dec.{eqb}
-use lib.ListN.{length, drop, length-map}
+use borrow.Author.Tests.{eq-eqb, leb-true}
+use lib.ListN.{length, drop}
 use Rattle.table.specs.declared.record.Rec.{Rec}
-use Rattle.lent.specs.declared.verdict.Verdict.{Verdict}
-use Rattle.lent.specs.declared.verdict.Verdict.the-variants.{Admitted, Refused}
-use Rattle.lent.specs.declared.list.Listed.the-variants.{Entries, Refused as Denied}
+use Rattle.lent.specs.declared.verdict.Verdict.the-variants.{Admitted}
+use Rattle.table.specs.Kinds.{isNode, expression}
 use Rattle.lent.specs.Numbers.{word}
-use Rattle.table.specs.Table.{count, recordAt, records, part}
-use Rattle.forest.specs.Forest.{kids, stretchEnd}
-use Rattle.lent.specs.Verdicts.{Rule}
-use Rattle.table.specs.Rules.{verdict, mostRecords}
-use Rattle.lent.specs.Lists.{rowBytes, listBytes, listVerdict, reply, buffer, listed, lent}
-use Rattle.forest.specs.Places.{Place, nodesOf, Stands, sum}
+use Rattle.table.specs.Table.{count, kindAt, recordAt, records, part}
+use Rattle.forest.specs.Forest.{stretchEnd}
+use Rattle.table.specs.Rules.{verdict}
+use Rattle.table.specs.Exactly.{Node}
+use Rattle.forest.specs.Sense.{Tidy}
+use Rattle.lent.specs.Lists.{rowBytes, listBytes}
+use Rattle.forest.specs.Places.{Place, nodesOf, selves, nodeRecords, sum}
 use Rattle.lent.proofs.Cases.{lt-or-le}
 use Rattle.forest.proofs.Laws.{head-part}
-use Rattle.forest.proofs.Places.{stands}
+use Rattle.forest.proofs.Places.{stands, nodes-in-order}
 use Rattle.forest.proofs.Sense.{admitted-tidy}
 use Rattle.tables.specs.declared.pending.TableRef.{TableRef}
 use Rattle.collection.specs.Collection.{collection, ownTables}
 use Rattle.tables.specs.Tables.{references, referenceBytes, referenceRow}
 use Rattle.scope.specs.Scope.{tableRefs}
-use Rattle.roots.specs.Reach.{isRoot, isTableName, refs, rootIs, reaches, times, Exact}
-use Rattle.roots.specs.AllRoots.{recordsIn, timesIn, Served, shown, AllRoots}
-use Rattle.roots.proofs.Exact.{table-exact, sum-same}
-
--- ---- a reply with room
-
-module _ (rs : List Rule) (es : List TableRef) (old : List ℕ) where
-  roomy : {m : ℕ} {bytes : List ℕ} → Entries m ≡ listed rs referenceRow es old → bytes ≡ lent rs referenceRow es old
-      → (m ≡ length es) × (bytes ≡ listBytes referenceRow es ++ drop (length (listBytes referenceRow es)) old)
-  unfolding listed lent
-  roomy {m} {bytes} e w = go (listVerdict rs referenceRow es old) e w
-    where
-      go : (v : Verdict) → Entries m ≡ reply v (length es)
-          → bytes ≡ buffer v (listBytes referenceRow es ++ drop (length (listBytes referenceRow es)) old) old
-          → (m ≡ length es) × (bytes ≡ listBytes referenceRow es ++ drop (length (listBytes referenceRow es)) old)
-      go Admitted e w = (unfold reply buffer in (cc, w))
-      go (Refused k d) e w = absurd (unfold reply in (let z : _≡_ {A = ℕ} 0 1 = cc in omega arith))
+use Rattle.roots.specs.Reach.{refs, times, Exact}
+use Rattle.roots.specs.AllRoots.{RootIn, recordsIn, timesIn}
+use Rattle.roots.proofs.Exact.{table-exact}
 
 -- ---- the record numbers in the bytes
 
@@ -105,57 +93,69 @@ unfolding sum
 times-map x [] = refl
 times-map x (e ∷ es) = rw (times-map x es)
 
-sum-members : {A : Type 0} {f g : A → ℕ} (xs : List A) → ((x : A) → List·Memᴰ x xs → f x ≡ g x) → sum f xs ≡ sum g xs
+pub sum-members : {A : Type 0} {f g : A → ℕ} (xs : List A) → ((x : A) → List·Memᴰ x xs → f x ≡ g x) → sum f xs ≡ sum g xs
 unfolding sum
 sum-members [] h = refl
 sum-members (x ∷ xs) h = rw (h x (List·Memᴰ·head refl), sum-members xs (λ y m. h y (List·Memᴰ·tail m)))
 
--- ---- the theorem
+-- ---- a place is a node
 
-module _ (src t : List ℕ) (ok : verdict t (length src) 0 ≡ Admitted) (s : Served src t) where
-  some : (0 < count t) × (count t ≤ mostRecords)
-  some = let w = admitted-tidy t (length src) 0 ok in (w .some, w .few)
+all-nodes : (r : Rec) (rs : List Rec) → List·Memᴰ r (nodeRecords rs) → isNode (r .kind) ≡ true
+unfolding nodeRecords
+all-nodes r (q ∷ rs) m = go (isNode (q .kind)) refl m (all-nodes r rs)
+  where
+    go : (b : Bool) → isNode (q .kind) ≡ b → List·Memᴰ r (cond b (q ∷ nodeRecords rs) (nodeRecords rs)) → (List·Memᴰ r (nodeRecords rs) → isNode (r .kind) ≡ true)
+        → isNode (r .kind) ≡ true
+    go true e (List·Memᴰ·head x) ih = ap (λ (z : Rec). isNode (z .kind)) x ∙ e
+    go true e (List·Memᴰ·tail x) ih = ih x
+    go false e x ih = ih x
 
-  exact : Exact src (nodesOf t)
-  exact = table-exact src t (some .0)
+among-selves : (p : Place) (ps : List Place) → List·Memᴰ p ps → List·Memᴰ (p .self) (selves ps)
+unfolding selves
+among-selves p (q ∷ ps) (List·Memᴰ·head x) = List·Memᴰ·head (ap (λ (z : Place). z .self) x)
+among-selves p (q ∷ ps) (List·Memᴰ·tail x) = List·Memᴰ·tail (among-selves p ps x)
 
-  index-below : (p : Place) → List·Memᴰ p (nodesOf t) → p .self .index < count t
+node-self : (p : Place) (ps : List Place) → List·Memᴰ p ps → (rs : List Rec) → selves ps ≡ nodeRecords rs → isNode (p .self .kind) ≡ true
+node-self p ps m rs e = all-nodes (p .self) rs (rw e at (among-selves p ps m))
+
+-- ---- the lists
+
+module _ (src t : List ℕ) (ok : verdict t (length src) 0 ≡ Admitted) where
+  tidy : Tidy t (length src)
+  tidy = admitted-tidy t (length src) 0 ok
+
+  pub exact : Exact src (nodesOf t)
+  exact = table-exact src t (tidy .some)
+
+  -- a root is a node of the table
+  pub its-node : (root : Place) → List·Memᴰ root (nodesOf t) → (root .self .index < count t) × Node (kindAt t (root .self .index))
   unfolding recordAt
-  index-below p m = let w = stands t (some .0) p m in rw (w .self) (rw (zero-add (w .at)) (w .within))
+  its-node root m =
+      let w = stands t (tidy .some) root m in
+      let i : root .self .index ≡ w .at = ap (λ (r : Rec). r .index) (w .self) ∙ zero-add (w .at) in
+      let k : root .self .kind ≡ kindAt t (w .at) = ap (λ (r : Rec). r .kind) (w .self) in
+      rw i (w .within, rw k at (leb-true (root .self .kind) expression (node-self root (nodesOf t) m (records 0 t) (nodes-in-order t (length src) tidy))))
 
   -- a root's list is that of its record
-  its-list : (root : Place) → List·Memᴰ root (nodesOf t) → tableRefs src t (root .self .index) ≡ refs src root
+  pub its-list : (root : Place) → List·Memᴰ root (nodesOf t) → tableRefs src t (root .self .index) ≡ refs src root
   its-list root m =
-      let w = stands t (some .0) root m in
+      let w = stands t (tidy .some) root m in
       let i : root .self .index ≡ w .at = ap (λ (r : Rec). r .index) (w .self) ∙ (unfold recordAt in zero-add (w .at)) in
       let h : recordAt (part t (w .at) (stretchEnd t (w .at))) (w .at) 0 ≡ recordAt t 0 (w .at) = rw (zero-add (w .at)) at (head-part t 0 (w .at) (w .within) refl) in
       ap (tableRefs src t) i ∙ rw (h, ← w .below) (ap (λ (r : Rec). collection (ownTables references src) r (root .below)) (sym (w .self)))
 
-  bounded : (root : Place) → List·Memᴰ root (nodesOf t) → isRoot root ≡ true → (x : ℕ) → 1 ≤ times x (refs src root) → x < 4294967296
-  bounded root m r x h =
+  bounded : (root : Place) → RootIn t root → (x : ℕ) → 1 ≤ times x (refs src root) → x < 4294967296
+  bounded root r x h =
       ⊎-elim
-      (λ l. omega (arith, some .1))
-      (λ l. absurd (omega (arith, exact .others root x m r (λ p n q e. omega (arith, index-below p n)))))
+      (λ l. omega (arith, tidy .few))
+      (λ l. absurd (omega (arith, exact .others root x (r .0) (r .1) (λ p n q e. omega (arith, its-node p n .0)))))
       (lt-or-le x (count t))
 
-  -- what a root's answer shows is its list
-  answered : (root : Place) → List·Memᴰ root (nodesOf t) → isRoot root ≡ true
-      → (s .entries (root .self .index) ≡ length (refs src root)) × (shown s root ≡ map recordOf (refs src root))
-  answered root m r =
-      let i : ℕ = root .self .index in
-      let w = roomy _ (tableRefs src t i) (s .old i) (sym (s .room root m r) ∙ s .replied root m r) (s .written root m r) in
-      let v = rw (its-list root m) at w in
-      (v .0, rw (v .0, v .1) (read-back (refs src root) (bounded root m r) _))
+  -- what a root's buffer shows is its list
+  pub shown-list : (root : Place) → RootIn t root → (rest : List ℕ)
+      → recordsIn (length (refs src root)) (listBytes referenceRow (refs src root) ++ rest) ≡ map recordOf (refs src root)
+  shown-list root r rest = read-back (refs src root) (bounded root r) rest
 
-  pub all-roots : AllRoots src t s
-  all-roots =
-      record {
-        names = λ root p m r n q. rw (answered root m r .1, times-map (p .self .index) (refs src root)) (exact .names root p m r n q);
-        others = λ root x m r h. rw (answered root m r .1, times-map x (refs src root)) (exact .others root x m r h);
-        total = sum-members (nodesOf t) (λ root m. entries-of root m (isRoot root) refl) ∙ exact .total;
-      }
-    where
-      entries-of : (root : Place) → List·Memᴰ root (nodesOf t) → (b : Bool) → isRoot root ≡ b
-          → cond b (s .entries (root .self .index)) 0 ≡ cond b (length (refs src root)) 0
-      entries-of root m true r = answered root m r .0
-      entries-of root m false r = refl
+  pub shown-times : (root : Place) → RootIn t root → (rest : List ℕ) (x : ℕ)
+      → timesIn x (recordsIn (length (refs src root)) (listBytes referenceRow (refs src root) ++ rest)) ≡ times x (refs src root)
+  shown-times root r rest x = ap (timesIn x) (shown-list root r rest) ∙ times-map x (refs src root)

@@ -1,5 +1,5 @@
 -- Demand 3: what the reference lists of a tree's roots hold, said of its nodes and of what stands above each.
--- Definitions only; the theorem is in proofs/Exact.antt and, over replies and bytes, in proofs/AllRoots.antt.
+-- Definitions only; the theorem is in proofs/Exact.antt; over replies and bytes it is demands/specs/Demand3.antt.
 use Prim.Native.Nat.{ℕ, _+_}
 use mathlib.Core.Path.{_≡_}
 use mathlib.Core.List.{List, [], _∷_, List·Memᴰ}

@@ -1,1 +1,2 @@
+pub mod AllRootsExamples
 pub mod NearestExamples
