@@ -20,7 +20,7 @@ struct Listed {
     ours: &'static [&'static [u32]],
 }
 
-fn all() -> [Listed; 7] {
+fn all() -> [Listed; 10] {
     let with = |text: &str, end| made(text, &[(14, 0, 0, end), (29, 1, 0, end), (QUOTED, 2, 0, end)]);
     let mut not_text = made("x", &[(1, 0, 0, 1), (133, 1, 0, 1)]);
     not_text.source = vec![255];
@@ -30,12 +30,19 @@ fn all() -> [Listed; 7] {
             rust: Rust::Stops, ours: &[&[0, 1, 0, 1, 0, 1]] },
         Listed { what: "a lone quote mark as an alias of a table", frame: made("t`", &[(16, 0, 0, 2), (33, 1, 0, 1), (BARE_WORD, 2, 0, 1), (35, 1, 1, 2), (QUOTED, 2, 1, 2)]),
             question: List::TableRefs, rust: Rust::Stops, ours: &[&[1, NONE, NONE, NONE, NONE, 0, 1, 0, 1, 1, 2, 1, 2]] },
+        Listed { what: "a lone quote mark in an alias that has a later name", frame: made("`x", &[(15, 0, 0, 2), (36, 1, 0, 2), (QUOTED, 2, 0, 1), (BARE_WORD, 2, 1, 2)]),
+            question: List::ColumnAliases, rust: Rust::Stops, ours: &[&[1, 2, 1, 2, 0, 2]] },
+        Listed { what: "a lone quote mark, and another list of its root",
+            frame: made("`x", &[(4, 0, 0, 2), (14, 1, 0, 1), (29, 2, 0, 1), (QUOTED, 3, 0, 1), (15, 1, 1, 2), (36, 2, 1, 2), (BARE_WORD, 3, 1, 2)]),
+            question: List::ColumnAliases, rust: Rust::Stops, ours: &[&[1, 2, 1, 2, 1, 2]] },
         Listed { what: "a token that ends inside a character, classed", frame: made("é", &[(55, 0, 0, 2), (BARE_WORD, 1, 0, 1)]), question: List::Classes,
             rust: Rust::Stops, ours: &[&[0, 1, 6]] },
         Listed { what: "a token that ends inside a character, at a cursor", frame: made("é", &[(16, 0, 0, 2), (BARE_WORD, 1, 0, 1)]), question: List::Context,
             rust: Rust::Stops, ours: &[&[1, NONE, NONE, 0]] },
         Listed { what: "a source that is no UTF-8", frame: not_text, question: List::Classes, rust: Rust::NoText, ours: &[&[0, 1, 3]] },
         Listed { what: "a function without a name", frame: made("", &[(43, 0, 0, 0)]), question: List::Context, rust: Rust::EmptyName, ours: &[&[10, NONE, NONE, 0]] },
+        Listed { what: "a function named by a word of no bytes", frame: made("", &[(43, 0, 0, 0), (BARE_WORD, 1, 0, 0)]), question: List::Context, rust: Rust::EmptyName,
+            ours: &[&[10, 0, 0, 0]] },
     ]
 }
 

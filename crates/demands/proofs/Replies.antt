@@ -58,7 +58,7 @@ first-after (r ∷ rs) more = go (r .broken) (first-after rs more)
 no-node : (t : List ℕ) (i : ℕ) → noRoot t i ≡ true → NoNode t i
 no-node t i e h k = clash (rw (lt-ltb i (count t) h, le-leb (kindAt t i) expression k)) e
 
-a-node : (t : List ℕ) (i : ℕ) → noRoot t i ≡ false → NoNode t i → ⊥
+pub a-node : (t : List ℕ) (i : ℕ) → noRoot t i ≡ false → NoNode t i → ⊥
 a-node t i e w =
     let b = both (ltb i (count t)) (isNode (kindAt t i)) (not-false _ e) in
     w (ltb-true i (count t) (b .0)) (leb-true (kindAt t i) expression (b .1))

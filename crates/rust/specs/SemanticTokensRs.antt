@@ -8,17 +8,15 @@ use mathlib.Core.Option.{Option, none, some}
 use lib.Dec.{ltb, leb, eqb}
 use lib.ListN.{length}
 use Rattle.table.specs.declared.record.Rec.{Rec}
-use Rattle.lent.specs.declared.verdict.Verdict.the-variants.{Admitted}
 use Rattle.table.specs.Kinds.{tableIdentifier, tableExpression, tableAlias, columnAlias, dataType, dataTypeParameters, nestedDataType, functionCall, aggregateFunction, tableFunction, identifier, columnReference, qualifiedName, queryParameterExpression, databaseDefinition, tableDefinition, viewDefinition, materializedViewDefinition, dictionaryDefinition, expression, comment, bareWord, quotedIdentifier, number, stringToken, hereDoc, plus, arrow}
 use Rattle.table.specs.Table.{kindAt, records}
 use Rattle.forest.specs.Forest.{Forest, nil, token, node, kids}
-use Rattle.table.specs.Rules.{verdict}
 use Rattle.lent.specs.Text.{bytesOf, upperWord, text}
 use Rattle.scope.specs.declared.semantic_tokens.ClassedToken.{ClassedToken}
 use Rattle.keywords.specs.Keywords.{keywords, elem}
 use Rattle.scope.specs.Classes.{classesOf}
 use Rattle.path.specs.Path.{oneOf}
-use Rattle.demands.specs.Rust.{push}
+use Rattle.rust.specs.Rust.{Run, gives, _>>=_, slice, push}
 
 -- ---- the constants, and document 01's numbers
 
@@ -58,15 +56,6 @@ abbrev pub «TT_PROPERTY» : ℕ
 unfoldable pub «is_keyword» : List ℕ → Bool
 «is_keyword» word = cond (ltb (length word) 2) false (elem (upperWord word) (map bytesOf keywords))
 
--- fn classify_identifier_by_parent(parent)
-unfoldable pub «classify_identifier_by_parent» : ℕ → Option ℕ
-«classify_identifier_by_parent» parent =
-    cond (oneOf (functionCall ∷ aggregateFunction ∷ tableFunction ∷ []) parent) (some «TT_FUNCTION»)
-    (cond (oneOf (dataType ∷ dataTypeParameters ∷ nestedDataType ∷ []) parent) (some «TT_TYPE»)
-    (cond (oneOf (tableIdentifier ∷ tableExpression ∷ tableAlias ∷ databaseDefinition ∷ tableDefinition ∷ []) parent) (some «TT_PROPERTY»)
-    (cond (oneOf (columnReference ∷ qualifiedName ∷ columnAlias ∷ identifier ∷ []) parent) (some «TT_VARIABLE»)
-    (some «TT_VARIABLE»))))
-
 -- the tables and databases of `classify_bareword`
 abbrev pub tables : List ℕ
 tables =
@@ -93,21 +82,36 @@ unfoldable pub «classify_bareword» : List ℕ → ℕ → Option ℕ
     (cond (eqb parent expression) (some «TT_VARIABLE»)
     none)))))))
 
+-- fn classify_identifier_by_parent(parent)
+unfoldable pub «classify_identifier_by_parent» : ℕ → Option ℕ
+«classify_identifier_by_parent» parent =
+    cond (oneOf (functionCall ∷ aggregateFunction ∷ tableFunction ∷ []) parent) (some «TT_FUNCTION»)
+    (cond (oneOf (dataType ∷ dataTypeParameters ∷ nestedDataType ∷ []) parent) (some «TT_TYPE»)
+    (cond (oneOf (tableIdentifier ∷ tableExpression ∷ tableAlias ∷ databaseDefinition ∷ tableDefinition ∷ []) parent) (some «TT_PROPERTY»)
+    (cond (oneOf (columnReference ∷ qualifiedName ∷ columnAlias ∷ identifier ∷ []) parent) (some «TT_VARIABLE»)
+    (some «TT_VARIABLE»))))
+
 -- the fifteen operators of `classify_token`, Plus to Arrow
 abbrev pub operators : List ℕ
 operators =
     plus ∷ 144 ∷ 145 ∷ 146 ∷ 147 ∷ 148 ∷ 149 ∷ 150 ∷ 151 ∷ 152 ∷ 153 ∷ 154 ∷ 155 ∷ 156 ∷ arrow ∷ []
 
+-- its arm of a BareWord, which reads the text
+unfoldable pub word : ℕ → ℕ → List ℕ → ℕ → Run (Option ℕ)
+word start end source parent = do
+  s ← slice source start end
+  gives («classify_bareword» (text source (s .start) (s .end)) parent)
+
 -- fn classify_token(kind, start, end, source, parent)
-unfoldable pub «classify_token» : ℕ → ℕ → ℕ → List ℕ → ℕ → Option ℕ
+unfoldable pub «classify_token» : ℕ → ℕ → ℕ → List ℕ → ℕ → Run (Option ℕ)
 «classify_token» kind start end source parent =
-    cond (eqb kind comment) (some «TT_COMMENT»)
-    (cond (eqb kind number) (some «TT_NUMBER»)
-    (cond (oneOf (stringToken ∷ hereDoc ∷ []) kind) (some «TT_STRING»)
-    (cond (oneOf operators kind) (some «TT_OPERATOR»)
-    (cond (eqb kind quotedIdentifier) («classify_identifier_by_parent» parent)
-    (cond (eqb kind bareWord) («classify_bareword» (text source start end) parent)
-    none)))))
+    cond (eqb kind comment) (gives (some «TT_COMMENT»))
+    (cond (eqb kind number) (gives (some «TT_NUMBER»))
+    (cond (oneOf (stringToken ∷ hereDoc ∷ []) kind) (gives (some «TT_STRING»))
+    (cond (oneOf operators kind) (gives (some «TT_OPERATOR»))
+    (cond (eqb kind quotedIdentifier) (gives («classify_identifier_by_parent» parent))
+    (cond (eqb kind bareWord) (word start end source parent)
+    (gives none))))))
 
 -- `if let Some(tt) = ..`, then `out.push((token.start, token.end, tt))`
 unfoldable pub pushClass : List ClassedToken → Rec → Option ℕ → List ClassedToken
@@ -115,14 +119,16 @@ pushClass out t none = out
 pushClass out t (some tt) = push out (record { start = t .start; end = t .end; class = tt })
 
 -- fn collect_tokens(tree, source, out), of a tree of this kind
-unfoldable pub «collect_tokens» : ℕ → Forest → List ℕ → List ClassedToken → List ClassedToken
-«collect_tokens» kind nil source out = out
-«collect_tokens» kind (token t rest) source out =
-    «collect_tokens» kind rest source (pushClass out t («classify_token» (t .kind) (t .start) (t .end) source kind))
-«collect_tokens» kind (node tree children rest) source out =
-    «collect_tokens» kind rest source («collect_tokens» (tree .kind) children source out)
+unfoldable pub «collect_tokens» : ℕ → Forest → List ℕ → List ClassedToken → Run (List ClassedToken)
+«collect_tokens» kind nil source out = gives out
+«collect_tokens» kind (token t rest) source out = do
+  class ← «classify_token» (t .kind) (t .start) (t .end) source kind
+  «collect_tokens» kind rest source (pushClass out t class)
+«collect_tokens» kind (node tree children rest) source out = do
+  more ← «collect_tokens» (tree .kind) children source out
+  «collect_tokens» kind rest source more
 
--- slice::sort_by_key by the start, which is stable: an entry goes before the first that starts later
+-- slice::sort_by_key by the start, which is stable: an entry goes before the first of those behind it that does not start earlier
 unfoldable pub insert : ClassedToken → List ClassedToken → List ClassedToken
 insert x [] = x ∷ []
 insert x (y ∷ ys) =
@@ -134,13 +140,14 @@ sortByStart [] = []
 sortByStart (x ∷ xs) = insert x (sortByStart xs)
 
 -- fn compute(tree, source, ..), its raw_tokens after the sort
-unfoldable pub compute : ℕ → Forest → List ℕ → List ClassedToken
-compute kind children source = sortByStart («collect_tokens» kind children source [])
+unfoldable pub compute : ℕ → Forest → List ℕ → Run (List ClassedToken)
+compute kind children source = do
+  out ← «collect_tokens» kind children source []
+  gives (sortByStart out)
 
 -- ---- the second reading says the same
 
+-- the classes of a table's tree, before the sort and after it: the tokens are in order
 pub record SemanticTokensRs (source t : List ℕ) : Type 0 where
-  -- of every table, before the sort
-  pub collected : «collect_tokens» (kindAt t 0) (kids (records 0 t)) source [] ≡ classesOf source t
-  -- and of every admitted table after it: the tokens are in order
-  pub sorted : verdict t (length source) 0 ≡ Admitted → compute (kindAt t 0) (kids (records 0 t)) source ≡ classesOf source t
+  pub collected : «collect_tokens» (kindAt t 0) (kids (records 0 t)) source [] ≡ gives (classesOf source t)
+  pub sorted : compute (kindAt t 0) (kids (records 0 t)) source ≡ gives (classesOf source t)

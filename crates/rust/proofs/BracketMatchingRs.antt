@@ -14,9 +14,9 @@ use Rattle.lent.specs.Text.{bytesOf}
 use Rattle.brackets.specs.declared.bracket_matching.Hint.the-variants.{Opener, NoOpener}
 use Rattle.brackets.specs.Brackets.{fits, closed, stackStep, left, stackLeft, indexOf, holding, lastOpener, hintOf}
 use Rattle.path.specs.Path.{oneOf}
-use Rattle.demands.specs.Rust.{push, last, pop, find}
-use Rattle.demands.specs.BracketMatchingRs.{matches, popMatching, bracket, «collect_brackets», closer, findOpener, enrich, hint, BracketMatchingRs}
-use Rattle.demands.proofs.KindLists.{range-list}
+use Rattle.rust.specs.Rust.{push, last, pop, find}
+use Rattle.rust.specs.BracketMatchingRs.{matches, popMatching, bracket, «collect_brackets», closer, findOpener, enrich, hint, BracketMatchingRs}
+use Rattle.rust.proofs.KindLists.{range-list}
 
 last-push : {A : Type 0} (xs : List A) (x : A) → last (push xs x) ≡ some x
 unfolding last

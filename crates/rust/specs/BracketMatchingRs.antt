@@ -15,7 +15,7 @@ use Rattle.brackets.specs.declared.bracket_matching.Hint.{Hint}
 use Rattle.brackets.specs.declared.bracket_matching.Hint.the-variants.{Opener, NoOpener}
 use Rattle.brackets.specs.Brackets.{holding, indexOf, openersLeft, stackLeft, hintOf}
 use Rattle.path.specs.Path.{oneOf}
-use Rattle.demands.specs.Rust.{push, last, pop, find}
+use Rattle.rust.specs.Rust.{push, last, pop, find}
 
 -- struct BracketInfo: the token's record, which has its kind and its range
 

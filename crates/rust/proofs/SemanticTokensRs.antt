@@ -1,4 +1,4 @@
--- The Rust's token classes and document 01's say the same.
+-- The Rust's token classes and document 01's say the same, of an admitted table over valid UTF-8 with tokens cut between characters.
 -- Assumes nothing.
 use Prim.Native.Nat.{ℕ, zero, suc, _+_, _-_, _≤_, _<_}
 use mathlib.Core.Path.{_≡_, refl, sym, ap, _∙_}
@@ -27,8 +27,11 @@ use Rattle.forest.proofs.Orders.{tidy-ordered}
 use Rattle.forest.proofs.Sense.{admitted-tidy, whole-tree}
 use Rattle.keywords.proofs.KeywordLaws.{not-keyword}
 use Rattle.path.specs.Path.{oneOf}
-use Rattle.demands.specs.SemanticTokensRs.{«is_keyword», «classify_identifier_by_parent», tables, «classify_bareword», operators, «classify_token», pushClass, «collect_tokens», insert, sortByStart, compute, SemanticTokensRs}
-use Rattle.demands.proofs.KindLists.{kindsFrom, range-list}
+use Rattle.rust.specs.Rust.{gives, _>>=_, slice, Askable}
+use Rattle.rust.specs.SemanticTokensRs.{«is_keyword», «classify_identifier_by_parent», tables, «classify_bareword», operators, word, «classify_token», pushClass, «collect_tokens», insert, sortByStart, compute, SemanticTokensRs}
+use Rattle.rust.proofs.KindLists.{kindsFrom, range-list}
+use Rattle.rust.proofs.Runs.{then-is}
+use Rattle.rust.proofs.Texts.{Reads, reads}
 
 -- a class as the Rust tells it
 unfoldable numbered : TokenClass → Option ℕ
@@ -131,15 +134,16 @@ bareword-same w p =
     rw (keyword-same w, range 40 2 p, range 43 2 p, range 33 2 p, range 50 4 p, range 46 2 p, tables-same p, columns-same p)
     (words (oneOf (40 ∷ 41 ∷ 42 ∷ []) p) (oneOf (43 ∷ 44 ∷ 45 ∷ []) p) (oneOf tables p) (eqb p 36) (oneOf (47 ∷ 48 ∷ 46 ∷ []) p) (eqb p 49) (isKeyword w) (eqb p 55))
 
-class-same : (source : List ℕ) (p k s e : ℕ) → «classify_token» k s e source p ≡ numbered (classOf source p k s e)
-unfolding «classify_token» classOf numbered
-class-same source p k s e =
-    rw (range 134 1 k, range 143 14 k, by-parent p, bareword-same (text source s e) p)
+class-same : (source : List ℕ) (p k s e : ℕ) → slice source s e ≡ gives (record { start = s; end = e })
+    → «classify_token» k s e source p ≡ gives (numbered (classOf source p k s e))
+unfolding «classify_token» word classOf numbered _>>=_
+class-same source p k s e w =
+    rw (w, range 134 1 k, range 143 14 k, by-parent p, bareword-same (text source s e) p)
     (go (eqb k 130) (eqb k 133) (oneOf (134 ∷ 135 ∷ []) k) (oneOf operators k) (eqb k 132) (eqb k 131) (byParent p) (bareword (text source s e) p))
   where
     go : (a b c d q w : Bool) (x y : TokenClass)
-        → cond a (some 4) (cond b (some 3) (cond c (some 2) (cond d (some 5) (cond q (numbered x) (cond w (numbered y) none)))))
-        ≡ numbered (cond a Comment (cond b Number (cond c StringLiteral (cond d Operator (cond q x (cond w y Unclassed))))))
+        → cond a (gives (some 4)) (cond b (gives (some 3)) (cond c (gives (some 2)) (cond d (gives (some 5)) (cond q (gives (numbered x)) (cond w (gives (numbered y)) (gives none))))))
+        ≡ gives (numbered (cond a Comment (cond b Number (cond c StringLiteral (cond d Operator (cond q x (cond w y Unclassed)))))))
     go true b c d q w x y = refl
     go false true c d q w x y = refl
     go false false true d q w x y = refl
@@ -164,14 +168,16 @@ push-same out t Parameter = refl
 push-same out t Property = refl
 push-same out t Unclassed = sym (append-nil out)
 
-collect-same : (source : List ℕ) (f : Forest) (p : ℕ) (out : List ClassedToken) → «collect_tokens» p f source out ≡ out ++ classes source p f
-unfolding «collect_tokens» classes
-collect-same source nil p out = sym (append-nil out)
-collect-same source (token t rest) p out =
-    rw (class-same source p (t .kind) (t .start) (t .end), push-same out t (classOf source p (t .kind) (t .start) (t .end)))
-    (collect-same source rest p _ ∙ append-assoc out _ (classes source p rest))
-collect-same source (node r below rest) p out =
-    rw (collect-same source below (r .kind) out) (collect-same source rest p _ ∙ append-assoc out (classes source (r .kind) below) (classes source p rest))
+collect-same : (source : List ℕ) (f : Forest) (p : ℕ) (out : List ClassedToken) → Reads source f → «collect_tokens» p f source out ≡ gives (out ++ classes source p f)
+unfolding «collect_tokens» classes Reads
+collect-same source nil p out w = ap gives (sym (append-nil out))
+collect-same source (token t rest) p out w =
+    then-is _ (class-same source p (t .kind) (t .start) (t .end) (w .0 .text))
+    ∙ rw (push-same out t (classOf source p (t .kind) (t .start) (t .end)))
+    (collect-same source rest p _ (w .1) ∙ ap gives (append-assoc out _ (classes source p rest)))
+collect-same source (node r below rest) p out w =
+    then-is _ (collect-same source below (r .kind) out (w .0))
+    ∙ collect-same source rest p _ (w .1) ∙ ap gives (append-assoc out (classes source (r .kind) below) (classes source p rest))
 
 -- ---- the sort
 
@@ -279,8 +285,8 @@ module _ (source : List ℕ) where
         rw (append-nil (classesOf source t))
         at (classes-rising (kids (records 0 t)) (kindAt t 0) 0 0 [] [] (kids-leafy (records 0 t)) below-ascending (λ c v. tt))
 
-pub semantic-tokens-rs : (source t : List ℕ) → SemanticTokensRs source t
+pub semantic-tokens-rs : (source t : List ℕ) → verdict t (length source) 0 ≡ Admitted → Askable source t → SemanticTokensRs source t
 unfolding compute
-semantic-tokens-rs source t =
-    let same : «collect_tokens» (kindAt t 0) (kids (records 0 t)) source [] ≡ classesOf source t = collect-same source (kids (records 0 t)) (kindAt t 0) [] in
-    record { collected = same; sorted = λ ok. ap sortByStart same ∙ sort-rising 0 (classesOf source t) (classes-sorted source t ok) }
+semantic-tokens-rs source t ok ask =
+    let same : «collect_tokens» (kindAt t 0) (kids (records 0 t)) source [] ≡ gives (classesOf source t) = collect-same source (kids (records 0 t)) (kindAt t 0) [] (reads ok ask 0) in
+    record { collected = same; sorted = then-is _ same ∙ ap gives (sort-rising 0 (classesOf source t) (classes-sorted source t ok)) }

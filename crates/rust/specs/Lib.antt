@@ -1,0 +1,5 @@
+pub mod BracketMatchingRs
+pub mod CursorContextRs
+pub mod Rust
+pub mod ScopeRs
+pub mod SemanticTokensRs
