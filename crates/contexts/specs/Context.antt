@@ -1,6 +1,6 @@
 -- Document 01, "Worked by hand": the numbers and values of the contexts.
 -- Definitions only.
-use Prim.Native.Nat.{ℕ, _<_}
+use Prim.Native.Nat.{ℕ, _*_, _<_}
 use mathlib.Core.List.{List, [], _∷_}
 use Rattle.table.specs.declared.range.Range.{Range}
 use Rattle.tokens.specs.declared.last_token.Name.{Name}
@@ -8,6 +8,7 @@ use Rattle.tokens.specs.declared.last_token.Name.the-variants.{Nameless, Named}
 use Rattle.contexts.specs.declared.context.CursorContext.{CursorContext}
 use Rattle.contexts.specs.declared.context.CursorContext.the-variants.{SelectExpression, TableReference, ColumnOfTable, Expression, SettingName, EngineName, FormatName, DataType, CodecName, FunctionArgument, StatementStart, Unknown}
 use Rattle.contexts.specs.declared.context.Coded.{Coded}
+use Rattle.lent.specs.Numbers.{numberBytes}
 use Rattle.table.specs.Ranges.{absent, absentNumber}
 
 -- ---- the numbers and values of the contexts
@@ -43,6 +44,10 @@ coded Unknown = code 12 Nameless 0
 -- the entry of a context: its number, its name's range and its argument index
 unfoldable pub contextRow : CursorContext → List ℕ
 contextRow c = coded c .number ∷ coded c .name .start ∷ coded c .name .end ∷ coded c .index ∷ []
+
+-- how many bytes it takes
+abbrev pub contextBytes : ℕ
+contextBytes = 4 * numberBytes
 
 -- a function's name, where there is one, starts before 4294967295: it is then told apart from none
 unfoldable pub Starts : Name → Type 0

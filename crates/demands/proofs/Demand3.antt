@@ -28,7 +28,9 @@ use Rattle.demands.specs.Questions.{Asked, asked, matter, answerOf, said
 use Rattle.demands.specs.Demand1.{Missing, Holds, of-table, of-offsets, of-name, of-room}
 use Rattle.demands.specs.Demand3.{ServedAt, Served, entriesOf, Demand3, Demanded3}
 use Rattle.demands.proofs.Offsets.{no-offsets}
-use Rattle.demands.proofs.Replies.{staged, packing, demanded, rows-bytes}
+use Rattle.demands.proofs.Stages.{staged}
+use Rattle.demands.proofs.Replies.{packing, demanded}
+use Rattle.demands.proofs.Promises.{rows-bytes}
 
 module _ (source t : List ℕ) (ok : verdict t (length source) 0 ≡ Admitted) where
   -- ---- one root

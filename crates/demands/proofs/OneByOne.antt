@@ -12,7 +12,7 @@ use Rattle.lent.specs.Lists.{rowBytes, listBytes}
 use Rattle.table.specs.Exactly.{Broken}
 use Rattle.lent.proofs.Writes.{length-row}
 use Rattle.contexts.specs.declared.context.CursorContext.{CursorContext as Typed}
-use Rattle.contexts.specs.Context.{contextRow}
+use Rattle.contexts.specs.Context.{contextRow, contextBytes}
 use Rattle.cursor.specs.CursorContext.{contextAt}
 use Rattle.cursors.specs.Cursors.{offsetsOf, contextsAt}
 use Rattle.replies.specs.Reply.{packed, answered}
@@ -20,18 +20,19 @@ use Rattle.demands.specs.declared.Question.the-variants.{CursorContext, 
 use Rattle.demands.specs.Questions.{Asked, Matter, matter, answerOf, saidBytes}
 use Rattle.demands.specs.Demand1.{Missing, Holds, of-table, of-offsets, of-name, of-room, placeIn, First, Refusal, Answer}
 use Rattle.demands.specs.Demand2.{Meets}
-use Rattle.demands.specs.OneByOne.{contextBytes, entryAt, SinglyAt, Alike, RefusedAlike, OneByOne}
+use Rattle.demands.specs.OneByOne.{entryAt, SinglyAt, Alike, RefusedAlike, OneByOne}
 use Rattle.demands.proofs.Offsets.{no-offsets}
-use Rattle.demands.proofs.Replies.{answered-free, rows-bytes}
+use Rattle.demands.proofs.Replies.{answered-free}
+use Rattle.demands.proofs.Promises.{rows-bytes}
 
 -- ---- an entry of a list of contexts
 
-sixteen : (c : Typed) → length (rowBytes (contextRow c)) ≡ contextBytes
+row-bytes : (c : Typed) → length (rowBytes (contextRow c)) ≡ contextBytes
 unfolding contextRow
-sixteen c = length-row _
+row-bytes c = length-row _
 
 front : (c : Typed) (rest : List ℕ) → take contextBytes (rowBytes (contextRow c) ++ rest) ≡ rowBytes (contextRow c)
-front c rest = rw (sixteen c) at (take-append-seam (rowBytes (contextRow c)) rest)
+front c rest = rw (row-bytes c) at (take-append-seam (rowBytes (contextRow c)) rest)
 
 module _ (f : ℕ → Typed) where
   entry : (os : List ℕ) (i : ℕ) (rest : List ℕ) → i < length os → entryAt i (listBytes contextRow (map f os) ++ rest) ≡ rowBytes (contextRow (f (getD os i 0)))
@@ -45,7 +46,7 @@ module _ (f : ℕ → Typed) where
       let A : List ℕ = rowBytes (contextRow (f x)) in
       let B : List ℕ = listBytes contextRow (map f os) in
       let e : contextBytes * suc i ≡ contextBytes + contextBytes * i = omega arith in
-      let d : drop (contextBytes + contextBytes * i) (A ++ (B ++ rest)) ≡ drop (contextBytes * i) (B ++ rest) = rw (sixteen (f x)) at (drop-append-add A (B ++ rest) (contextBytes * i)) in
+      let d : drop (contextBytes + contextBytes * i) (A ++ (B ++ rest)) ≡ drop (contextBytes * i) (B ++ rest) = rw (row-bytes (f x)) at (drop-append-add A (B ++ rest) (contextBytes * i)) in
       rw (e, append-assoc A B rest, d) (entry os i rest (omega arith))
 
 -- ---- a single question beside the call
@@ -66,7 +67,7 @@ module _ (a : Asked) (i : ℕ) (b : Asked) (s : SinglyAt a i b) where
   one-said = append-nil (rowBytes (contextRow typed))
 
   no-room : length (b .out) < length (saidBytes (one .said)) → ⊥
-  no-room h = omega (arith, s .room, h, ap length one-said, sixteen typed)
+  no-room h = omega (arith, s .room, h, ap length one-said, row-bytes typed)
 
   single-free : ((k d : ℕ) → Broken (a .table) (length (a .source)) 0 k d → ⊥) → (k d : ℕ) → Holds b one k d → ⊥
   unfolding matter Missing

@@ -33,7 +33,7 @@ use Rattle.demands.specs.declared.Question.the-variants.{Check, TokenCla
 use Rattle.demands.specs.Questions.{Asked, Matter, number, rows, list, statementRecord, matter}
 use Rattle.demands.specs.Demand1.{NoNode, Missing, Holds, of-table, of-name}
 use Rattle.demands.specs.SecondReading.{Scoped, lists, lone-mark, GaveEach, Agrees, SecondReadings}
-use Rattle.demands.proofs.Replies.{a-node}
+use Rattle.demands.proofs.Stages.{a-node}
 use Rattle.demands.proofs.Spring.{spring}
 
 module _ (a : Asked) (ask : Askable (a .source) (a .table)) where

@@ -6,16 +6,14 @@ use mathlib.Core.Path.{_≡_}
 use mathlib.Core.List.{List}
 use lib.ListN.{length, getD, take, drop}
 use Rattle.replies.specs.Reply.{packed, answered}
+use Rattle.contexts.specs.Context.{contextBytes}
 use Rattle.cursors.specs.Cursors.{offsetsOf}
 use Rattle.demands.specs.declared.Question.the-variants.{CursorContext, CursorContexts}
 use Rattle.demands.specs.Questions.{Asked}
 use Rattle.demands.specs.Demand1.{Answer, Refusal}
 use Rattle.demands.specs.Demand2.{Meets}
 
--- how many bytes the entry of a context takes, and those of entry i
-abbrev pub contextBytes : ℕ
-contextBytes = 16
-
+-- the bytes of entry i
 abbrev pub entryAt : ℕ → List ℕ → List ℕ
 entryAt i out = take contextBytes (drop (contextBytes * i) out)
 

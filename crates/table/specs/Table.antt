@@ -1,10 +1,8 @@
 -- The tree table: twenty bytes a record, five 32-bit little-endian numbers, kind, depth, start, end, parent.
 -- Definitions only.
 use Prim.Native.Nat.{ℕ, zero, suc, _+_, _-_, _*_, _/_}
-use mathlib.Core.Bool.{Bool}
 use mathlib.Core.List.{List, [], _∷_}
 use lib.ListN.{length, getD, take, drop}
-use lib.Dec.{ltb}
 use Rattle.lent.specs.Numbers.{word}
 use Rattle.table.specs.declared.record.Rec.{Rec}
 
@@ -53,7 +51,3 @@ records base t = from t base 0
 -- the bytes of the records from a up to, not including, e
 abbrev pub part : List ℕ → ℕ → ℕ → List ℕ
 part t a e = take (recordBytes * e - recordBytes * a) (drop (recordBytes * a) t)
-
--- a node with start > end is empty
-abbrev pub empty : Rec → Bool
-empty r = ltb (r .end) (r .start)
