@@ -1,17 +1,18 @@
 -- On an admitted table over valid UTF-8, with tokens cut between characters:
+--     given-exactly   in valid UTF-8 a slice is given exactly if both its ends are between characters
 --     texts           no text stops
 --     unquote-is      a name without its quotes is document 01's, but that a lone mark stops
 --     Reads, reads    both, of every token inside a record
 -- Assumes nothing.
 use Prim.Native.Nat.{ℕ, _+_, _-_, _≤_, _<_}
 use mathlib.Core.Path.{_≡_, refl, sym, _∙_}
-use mathlib.Core.Bool.{Bool, true, false, cond, _&&_, _||_}
+use mathlib.Core.Bool.{Bool, true, false, cond, not, _&&_, _||_}
 use mathlib.Core.List.{List, _∷_}
 use mathlib.Core.Logic.{⊎-elim}
 use native.Mathlib.Omega.{arith}
 use native.Mathlib.Numerals.{add-one}
-use borrow.Author.Tests.{eq-eqb, ne-eqb, lt-ltb, le-ltb, le-leb, lt-leb}
-use lib.Dec.{eqb}
+use borrow.Author.Tests.{eq-eqb, ne-eqb, eqb-true, lt-ltb, le-ltb, le-leb, lt-leb, ltb-true}
+use lib.Dec.{leb, ltb, eqb}
 use lib.ListN.{length, getD, drop}
 use lib.Seq.{drop-cons}
 use Rattle.table.specs.declared.record.Rec.{Rec}
@@ -28,9 +29,9 @@ use Rattle.lent.proofs.Cases.{lt-or-le}
 use Rattle.forest.proofs.Sense.{admitted-tidy}
 use Rattle.names.specs.Names.{byteAt, unquoted}
 use Rattle.roots.proofs.Counts.{decide}
-use Rattle.utf8.specs.Utf8.{Utf8, Between}
-use Rattle.utf8.proofs.Utf8.{begins, behind}
-use Rattle.rust.specs.Rust.{Run, stops, gives, isCharBoundary, slice, textOf, Askable, NoTextStops}
+use Rattle.utf8.specs.Utf8.{further, isAmong, Utf8, Between}
+use Rattle.utf8.proofs.Utf8.{nothing, begins, behind, between-or}
+use Rattle.rust.specs.Rust.{Run, stops, gives, isCharBoundary, slice, GivenExactly, textOf, Askable, NoTextStops}
 use Rattle.rust.specs.ScopeRs.{unquote, isLone}
 use Rattle.rust.proofs.Starts.{inside-all}
 
@@ -68,6 +69,39 @@ slice-is s a e h p q = rw (le-leb a e h, p, q)
 slice-stops : (s : List ℕ) (a e : ℕ) → e < a → slice s a e ≡ stops
 unfolding slice
 slice-stops s a e h = rw (lt-leb a e h)
+
+-- and back: where the test holds, the place is between characters
+boundary-between : (s : List ℕ) → Utf8 s → (i : ℕ) → isCharBoundary s i ≡ true → Between s i
+unfolding isCharBoundary
+boundary-between s u i = go (eqb i 0) (eqb i (length s)) (ltb i (length s)) (isAmong further (getD s i 0)) refl refl refl refl
+  where
+    go : (a b c d : Bool) → eqb i 0 ≡ a → eqb i (length s) ≡ b → ltb i (length s) ≡ c → isAmong further (getD s i 0) ≡ d → (a || (b || (c && not d))) ≡ true → Between s i
+    go true b c d x y z w e = rw (eqb-true i 0 x) (record { within = omega arith; before = nothing; behind = u })
+    go false true c d x y z w e =
+        let q : i ≡ length s = eqb-true i (length s) y in
+        ⊎-elim (λ k. k) (λ k. absurd (omega (arith, k .0))) (between-or s u i (omega arith))
+    go false false true false x y z w e =
+        ⊎-elim (λ k. k) (λ k. absurd (let v : _≡_ {A = ℕ} 0 1 = cc in omega arith)) (between-or s u i (omega (arith, ltb-true i (length s) z)))
+    go false false true true x y z w e = absurd (let v : _≡_ {A = ℕ} 0 1 = cc in omega arith)
+    go false false false d x y z w e = absurd (let v : _≡_ {A = ℕ} 0 1 = cc in omega arith)
+
+never : {r : Range} (c : Bool) → cond (c && false) (gives r) stops ≡ gives r → ⊥
+never true e = let v : _≡_ {A = ℕ} 0 1 = cc in omega arith
+never false e = let v : _≡_ {A = ℕ} 0 1 = cc in omega arith
+
+slice-between : (s : List ℕ) → Utf8 s → (a e : ℕ) → slice s a e ≡ gives (record { start = a; end = e }) → Between s a × Between s e
+unfolding slice
+slice-between s u a e = go (isCharBoundary s a) (isCharBoundary s e) refl refl
+  where
+    go : (b c : Bool) → isCharBoundary s a ≡ b → isCharBoundary s e ≡ c
+        → cond {A = Run Range} (leb a e && (b && c)) (gives (record { start = a; end = e })) stops ≡ gives (record { start = a; end = e }) → Between s a × Between s e
+    go true true x y p = (boundary-between s u a x, boundary-between s u e y)
+    go true false x y p = absurd (never (leb a e) p)
+    go false c x y p = absurd (never (leb a e) p)
+
+pub given-exactly : (s : List ℕ) → Utf8 s → GivenExactly s
+given-exactly s u start end h =
+    (slice-between s u start end, (λ w. slice-is s start end h (boundary s start (w .0 .within) (w .0 .behind)) (boundary s end (w .1 .within) (w .1 .behind))))
 
 -- ---- quotes
 

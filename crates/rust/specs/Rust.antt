@@ -7,10 +7,11 @@
 -- A definition that has the name of a function of the Rust is that function. They stand in the order of the Rust's file, but for one that is used
 -- by an earlier one: it stands before its first use. These are the library functions that it uses.
 -- Definitions only.
-use Prim.Native.Nat.{ℕ, _<_}
+use Prim.Native.Nat.{ℕ, _≤_, _<_}
 use mathlib.Core.Path.{_≡_}
 use mathlib.Core.Bool.{Bool, cond, not, _&&_, _||_}
 use mathlib.Core.List.{List, [], _∷_, _++_}
+use mathlib.Core.Logic.{_↔_}
 use mathlib.Core.Option.{Option, none, some}
 use lib.Dec.{leb, ltb, eqb}
 use lib.ListN.{length, getD}
@@ -44,6 +45,10 @@ isCharBoundary s i = eqb i 0 || (eqb i (length s) || (ltb i (length s) && not (i
 unfoldable pub slice : List ℕ → ℕ → ℕ → Run Range
 slice source start end =
     cond (leb start end && (isCharBoundary source start && isCharBoundary source end)) (gives (record { start = start; end = end })) stops
+
+-- in valid UTF-8 it is given exactly if both its ends are between characters (`given-exactly` in proofs/Texts.antt)
+abbrev pub GivenExactly : List ℕ → Type 0
+GivenExactly source = (start end : ℕ) → start ≤ end → (slice source start end ≡ gives (record { start = start; end = end })) ↔ (Between source start × Between source end)
 
 -- Token::text(source)
 abbrev pub textOf : List ℕ → Rec → Run Range

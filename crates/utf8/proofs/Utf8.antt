@@ -1,16 +1,21 @@
--- What stands behind a place between characters begins with no byte that goes on with one.
---     begins    the first byte of valid UTF-8 is none that goes on with a character
---     behind    behind a first byte below 128 stands valid UTF-8
+-- The places of valid UTF-8, told by their bytes:
+--     nothing       no bytes are valid
+--     begins        the first byte of valid UTF-8 is none that goes on with a character
+--     behind        behind a first byte below 128 stands valid UTF-8
+--     between-or    every place is between characters, or its byte goes on with one
 -- Assumes nothing.
-use Prim.Native.Nat.{ℕ, _≤_, _<_}
-use mathlib.Core.Path.{_≡_, refl, ap, _∙_}
+use Prim.Native.Nat.{ℕ, zero, suc, _+_, _-_, _≤_, _<_}
+use mathlib.Core.Path.{_≡_, refl, sym, ap, _∙_}
 use mathlib.Core.Bool.{Bool, true, false, _&&_, _||_}
 use mathlib.Core.List.{List, [], _∷_, _++_}
 use mathlib.Core.Logic.{_⊎_, inl, inr, ⊎-elim}
 use native.Mathlib.Omega.{arith}
-use borrow.Author.Tests.{leb-true, lt-leb}
-use lib.Dec.{leb}
-use Rattle.utf8.specs.Utf8.{Bytes, bytes, further, forms, isAmong, hasForm, hasOneOf, isCharacter, areCharacters, inRow, Utf8}
+use native.Mathlib.Numerals.{add-one}
+use borrow.Author.Tests.{leb-true, le-leb, lt-leb, ltb-true, ltb-false}
+use lib.Dec.{leb, ltb}
+use lib.ListN.{length, length-append, getD, take, drop}
+use lib.Seq.{getD-take, getD-append-add, take-append-seam, take-append-add, drop-append-add}
+use Rattle.utf8.specs.Utf8.{Bytes, bytes, further, forms, isAmong, hasForm, hasOneOf, isCharacter, areCharacters, inRow, Utf8, Between}
 
 both : (a b : Bool) → (a && b) ≡ true → (a ≡ true) × (b ≡ true)
 both true b e = (refl, e)
@@ -133,3 +138,101 @@ behind b bs h u = go (u .characters) (u .each) (u .are)
             let v : bs ≡ ds ++ inRow cs = cc in
             let z : ds ≡ [] = alone d ds (rw w at h) x in
             record { characters = cs; each = y; are = v ∙ ap (λ (l : List ℕ). l ++ inRow cs) z }
+
+-- ---- a place that is between no characters
+
+-- the bytes behind the first of a form all go on with a character
+unfoldable areLater : List Bytes → Bool
+areLater [] = true
+areLater (r ∷ rs) = (leb 128 (r .first) && leb (r .last) 191) && areLater rs
+
+unfoldable areTails : List (List Bytes) → Bool
+areTails [] = true
+areTails ([] ∷ fs) = areTails fs
+areTails ((r ∷ rs) ∷ fs) = areLater rs && areTails fs
+
+tails : areTails forms ≡ true
+unfolding areTails areLater
+tails = refl
+
+later : (rs : List Bytes) (bs : List ℕ) → areLater rs ≡ true → hasForm rs bs ≡ true → (i : ℕ) → i < length bs → isAmong further (getD bs i 0) ≡ true
+unfolding areLater hasForm
+later [] [] l e i h = absurd (omega arith)
+later [] (b ∷ bs) l e i h = absurd (let w : _≡_ {A = ℕ} 0 1 = cc in omega arith)
+later (r ∷ rs) [] l e i h = absurd (omega arith)
+later (r ∷ rs) (b ∷ bs) l e zero h =
+    let x = both (isAmong r b) (hasForm rs bs) e .0 in
+    let y = both (leb (r .first) b) (leb b (r .last)) x in
+    let z = both (leb 128 (r .first)) (leb (r .last) 191) (both (leb 128 (r .first) && leb (r .last) 191) (areLater rs) l .0) in
+    rw (
+      le-leb 128 b (omega (arith, leb-true (r .first) b (y .0), leb-true 128 (r .first) (z .0))),
+      le-leb b 191 (omega (arith, leb-true b (r .last) (y .1), leb-true (r .last) 191 (z .1))),
+    )
+later (r ∷ rs) (b ∷ bs) l e (suc i) h =
+    later rs bs (both (leb 128 (r .first) && leb (r .last) 191) (areLater rs) l .1) (both (isAmong r b) (hasForm rs bs) e .1) i (omega arith)
+
+rest-form : (r : Bytes) (rs : List Bytes) (b : ℕ) (bs : List ℕ) → hasForm (r ∷ rs) (b ∷ bs) ≡ true → hasForm rs bs ≡ true
+unfolding hasForm
+rest-form r rs b bs e = both (isAmong r b) (hasForm rs bs) e .1
+
+no-form : (b : ℕ) (bs : List ℕ) → hasForm [] (b ∷ bs) ≡ true → ⊥
+unfolding hasForm
+no-form b bs e = let w : _≡_ {A = ℕ} 0 1 = cc in omega arith
+
+tail-of : (fs : List (List Bytes)) (b : ℕ) (bs : List ℕ) → areTails fs ≡ true → hasOneOf fs (b ∷ bs) ≡ true → (i : ℕ) → i < length bs → isAmong further (getD bs i 0) ≡ true
+unfolding areTails
+tail-of [] b bs l e i h = absurd (unfold hasOneOf in (let w : _≡_ {A = ℕ} 0 1 = cc in omega arith))
+tail-of ([] ∷ fs) b bs l e i h =
+    ⊎-elim (λ x. absurd (no-form b bs x)) (λ x. tail-of fs b bs l x i h) (one-of [] fs (b ∷ bs) e)
+tail-of ((r ∷ rs) ∷ fs) b bs l e i h =
+    let w = both (areLater rs) (areTails fs) l in
+    ⊎-elim (λ x. later rs bs (w .0) (rest-form r rs b bs x) i h) (λ x. tail-of fs b bs (w .1) x i h) (one-of (r ∷ rs) fs (b ∷ bs) e)
+
+-- a byte of a character that is not its first
+inner-byte : (c rest : List ℕ) → isCharacter c ≡ true → (i : ℕ) → i + 1 < length c → isAmong further (getD (c ++ rest) (i + 1) 0) ≡ true
+inner-byte [] rest e i h = absurd (omega arith)
+inner-byte (b ∷ bs) rest e i h = rw (add-one i, left bs i (omega arith)) (tail-of forms b bs tails e i (omega arith))
+  where
+    left : (xs : List ℕ) (i : ℕ) → i < length xs → getD (xs ++ rest) i 0 ≡ getD xs i 0
+    left xs i h = sym (getD-take (length xs) (xs ++ rest) i 0 h) ∙ ap (λ (l : List ℕ). getD l i 0) (take-append-seam xs rest)
+
+pub nothing : Utf8 []
+unfolding areCharacters inRow
+nothing = record { characters = []; each = refl; are = refl }
+
+-- place i is between characters, or its byte goes on with one
+abbrev Place : List ℕ → ℕ → Type 0
+Place s i = Between s i ⊎ ((i < length s) × (isAmong further (getD s i 0) ≡ true))
+
+-- a place behind a character
+module _ (c r : List ℕ) (e : isCharacter c ≡ true) where
+  with-first : {s : List ℕ} → Utf8 s → Utf8 (c ++ s)
+  unfolding areCharacters inRow
+  with-first u = record { characters = c ∷ u .characters; each = rw (e, u .each); are = ap (λ (l : List ℕ). c ++ l) (u .are) }
+
+  behind-first : (j : ℕ) → Place r j → Place (c ++ r) (length c + j)
+  behind-first j (inl b) =
+      inl (record { within = omega (arith, b .within, length-append c r); before = rw (take-append-add c r j) (with-first (b .before)); behind = rw (drop-append-add c r j) (b .behind) })
+  behind-first j (inr w) = inr (omega (arith, w .0, length-append c r), rw (getD-append-add c r j 0) (w .1))
+
+all-places : (cs : List (List ℕ)) → areCharacters cs ≡ true → (i : ℕ) → i ≤ length (inRow cs) → Place (inRow cs) i
+unfolding areCharacters inRow
+all-places [] e zero h = inl (record { within = h; before = nothing; behind = nothing })
+all-places [] e (suc i) h = absurd (omega arith)
+all-places (c ∷ cs) e zero h = inl (record { within = h; before = nothing; behind = record { characters = c ∷ cs; each = e; are = refl } })
+all-places (c ∷ cs) e (suc i) h = go (ltb (suc i) (length c)) refl (λ j b. all-places cs (both (isCharacter c) (areCharacters cs) e .1) j b)
+  where
+    is : isCharacter c ≡ true
+    is = both (isCharacter c) (areCharacters cs) e .0
+
+    go : (b : Bool) → ltb (suc i) (length c) ≡ b → ((j : ℕ) → j ≤ length (inRow cs) → Place (inRow cs) j) → Place (c ++ inRow cs) (suc i)
+    go true p ih =
+        let g : suc i < length c = ltb-true (suc i) (length c) p in
+        inr (omega (arith, length-append c (inRow cs)), rw (← add-one i) (inner-byte c (inRow cs) is i (rw (add-one i) g)))
+    go false p ih =
+        let g : length c ≤ suc i = ltb-false (suc i) (length c) p in
+        let k : length c + (suc i - length c) ≡ suc i = omega arith in
+        rw k at (behind-first c (inRow cs) is (suc i - length c) (ih (suc i - length c) (omega (arith, length-append c (inRow cs)))))
+
+pub between-or : (s : List ℕ) → Utf8 s → (i : ℕ) → i ≤ length s → Between s i ⊎ ((i < length s) × (isAmong further (getD s i 0) ≡ true))
+between-or s u i h = rw (u .are) (all-places (u .characters) (u .each) i (rw (u .are) at h))
