@@ -13,7 +13,7 @@ use native.Mathlib.Omega.{arith}
 use native.Mathlib.Numerals.{add-one}
 use borrow.Author.Tests.{leb-true, le-leb, lt-leb, ltb-true, ltb-false}
 use lib.Dec.{leb, ltb}
-use lib.ListN.{length, length-append, getD, take, drop}
+use lib.ListN.{length, length-append, getD}
 use lib.Seq.{getD-take, getD-append-add, take-append-seam, take-append-add, drop-append-add}
 use Rattle.utf8.specs.Utf8.{Bytes, bytes, further, forms, isAmong, hasForm, hasOneOf, isCharacter, areCharacters, inRow, Utf8, Between}
 
