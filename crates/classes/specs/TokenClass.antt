@@ -2,6 +2,7 @@
 -- Definitions only.
 use Prim.Native.Nat.{ℕ}
 use mathlib.Core.Bool.{Bool, cond, not, _&&_, _||_}
+use mathlib.Core.Option.{Option, none, some}
 use mathlib.Core.List.{List}
 use lib.Dec.{leb, eqb}
 use Rattle.table.specs.Kinds.{tableIdentifier, tableAlias, columnAlias, dataType, nestedDataType, functionCall, tableFunction, identifier, qualifiedName, queryParameterExpression, databaseDefinition, tableDefinition, dictionaryDefinition, expression, comment, bareWord, quotedIdentifier, number, stringToken, hereDoc, plus, arrow}
@@ -68,16 +69,16 @@ classOf source p kind start end =
 
 -- ---- its number
 
--- the number of a class; a token that has none has 10 here, which no entry shows
-unfoldable pub numberOf : TokenClass → ℕ
-numberOf Keyword = 0
-numberOf Function = 1
-numberOf StringLiteral = 2
-numberOf Number = 3
-numberOf Comment = 4
-numberOf Operator = 5
-numberOf Variable = 6
-numberOf TypeName = 7
-numberOf Parameter = 8
-numberOf Property = 9
-numberOf Unclassed = 10
+-- the number of a class, if it has one
+unfoldable pub numberOf : TokenClass → Option ℕ
+numberOf Keyword = some 0
+numberOf Function = some 1
+numberOf StringLiteral = some 2
+numberOf Number = some 3
+numberOf Comment = some 4
+numberOf Operator = some 5
+numberOf Variable = some 6
+numberOf TypeName = some 7
+numberOf Parameter = some 8
+numberOf Property = some 9
+numberOf Unclassed = none

@@ -12,8 +12,9 @@ use table::kinds::QUOTED_IDENTIFIER;
 use table::kinds::STRING_TOKEN;
 ghost use mathlib.Core.Path.{_≡_};
 ghost use mathlib.Core.Bool.{false};
+ghost use Rattle.classes.specs.inner.Slots.{slotOf};
 ghost use Rattle.keywords.specs.inner.KeywordTable.{Lent};
-ghost use Rattle.classes.specs.TokenClass.{byParent, judged, bareword, classOf, numberOf};
+ghost use Rattle.classes.specs.TokenClass.{byParent, judged, bareword, classOf};
 
 // The classes by document 01's numbers, 0 to 9, and none.
 pub enum TokenClass {
@@ -33,9 +34,9 @@ pub enum TokenClass {
 // What a token without a class has in place of a number.
 pub const UNCLASSED: usize = 10;
 
-// The number of a class.
+// The number of a class, if it has one.
 pub fn number_of(c: TokenClass) -> usize
-    ensures { λ r. ⌜ r ≡ numberOf c ⌝ }
+    ensures { λ r. ⌜ r ≡ slotOf c ⌝ }
 {
     match c {
         TokenClass::Keyword => 0,

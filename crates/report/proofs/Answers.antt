@@ -6,10 +6,11 @@
 use Prim.Native.Nat.{ℕ, zero, suc, _+_, _*_, _≤_}
 use mathlib.Core.Path.{_≡_, refl, sym, ap, _∙_}
 use mathlib.Core.Bool.{Bool, true, false, cond}
+use mathlib.Core.Option.{Option, none, some}
 use mathlib.Core.List.{List, [], _∷_, _++_, map, reverse}
 use native.Mathlib.Omega.{arith}
 use native.Mathlib.Nat.{mul-le-mul-right}
-use lib.Dec.{ltb, eqb}
+use lib.Dec.{ltb}
 use lib.ListN.{length, drop, length-append, length-map, length-reverse}
 use borrow.Author.Tests.{ltb-false, le-ltb}
 use Rattle.table.specs.declared.record.Rec.{Rec}
@@ -33,8 +34,7 @@ use Rattle.statement.specs.declared.statement.StatementReply.the-variants.{Stat
 use Rattle.classes.specs.declared.token_class.TokenClass.{TokenClass}
 use Rattle.statement.specs.Statement.{told, statementReply}
 use Rattle.classes.specs.TokenClass.{numberOf, classOf}
-use Rattle.scope.specs.Classes.{entryOf, classes, classesOf}
-use Rattle.classes.specs.declared.token_class.TokenClass.the-variants.{Unclassed}
+use Rattle.scope.specs.Classes.{entryWith, entryOf, classes, classesOf}
 use Rattle.brackets.specs.Brackets.{isOpener, isCloser, fits, closed, stackStep, left, stackLeft, indexOf, openersLeft}
 use Rattle.tables.specs.Tables.{referenceBytes, referenceRow}
 use Rattle.scope.specs.Scope.{tableRefs}
@@ -180,12 +180,12 @@ linked-length t [] = refl
 linked-length t (r ∷ rs) = ap suc (linked-length t rs)
 
 entry-one : (c : TokenClass) (s e : ℕ) → length (entryOf c s e) ≤ 1
-unfolding entryOf
-entry-one c s e = go (eqb (numberOf c) (numberOf Unclassed)) refl
+unfolding entryOf entryWith
+entry-one c s e = go (numberOf c)
   where
-    go : (b : Bool) → eqb (numberOf c) (numberOf Unclassed) ≡ b → length (entryOf c s e) ≤ 1
-    go true q = rw q (omega arith)
-    go false q = rw q (omega arith)
+    go : (n : Option ℕ) → length (entryWith n s e) ≤ 1
+    go none = omega arith
+    go (some n) = omega arith
 
 classes-below : (src : List ℕ) (k p : ℕ) (f : Forest) → length (classes src k f) ≤ length (inOrder p f)
 unfolding classes inOrder

@@ -21,7 +21,7 @@ use Rattle.classes.specs.declared.token_class.TokenClass.{TokenClass}
 use Rattle.classes.specs.declared.token_class.TokenClass.the-variants.{Keyword, Function, StringLiteral, Number, Comment, Operator, Variable, TypeName, Parameter, Property, Unclassed}
 use Rattle.scope.specs.declared.semantic_tokens.ClassedToken.{ClassedToken}
 use Rattle.keywords.specs.Keywords.{isKeyword}
-use Rattle.scope.specs.Classes.{classesOf, entryOf, classes}
+use Rattle.scope.specs.Classes.{classesOf, entryWith, entryOf, classes}
 use Rattle.classes.specs.TokenClass.{between, judged, bareword, byParent, classOf, numberOf}
 use Rattle.forest.proofs.Orders.{tidy-ordered}
 use Rattle.forest.proofs.Sense.{admitted-tidy, whole-tree}
@@ -32,20 +32,6 @@ use Rattle.rust.specs.SemanticTokensRs.{«is_keyword», «classify_ident
 use Rattle.rust.proofs.KindLists.{kindsFrom, range-list}
 use Rattle.rust.proofs.Runs.{then-is}
 use Rattle.rust.proofs.Texts.{Reads, reads}
-
--- a class as the Rust tells it
-unfoldable numbered : TokenClass → Option ℕ
-numbered Keyword = some 0
-numbered Function = some 1
-numbered StringLiteral = some 2
-numbered Number = some 3
-numbered Comment = some 4
-numbered Operator = some 5
-numbered Variable = some 6
-numbered TypeName = some 7
-numbered Parameter = some 8
-numbered Property = some 9
-numbered Unclassed = none
 
 keyword-same : (w : List ℕ) → «is_keyword» w ≡ isKeyword w
 unfolding «is_keyword» isKeyword
@@ -102,8 +88,8 @@ never false = refl
 
 words : (ty fn tb al co pa kw ex : Bool)
     → cond ty (some 7) (cond (fn && not kw) (some 1) (cond (tb && not kw) (some 9) (cond (al && not kw) (some 6) (cond (co && not kw) (some 6) (cond pa (some 8) (cond kw (some 0) (cond ex (some 6) none)))))))
-    ≡ numbered (cond ty TypeName (cond (not kw && fn) Function (cond (not kw && tb) Property (cond (not kw && (al || co)) Variable (cond pa Parameter (cond kw Keyword (cond ex Variable Unclassed)))))))
-unfolding numbered
+    ≡ numberOf (cond ty TypeName (cond (not kw && fn) Function (cond (not kw && tb) Property (cond (not kw && (al || co)) Variable (cond pa Parameter (cond kw Keyword (cond ex Variable Unclassed)))))))
+unfolding numberOf
 words true fn tb al co pa kw ex = refl
 words false true tb al co pa false ex = refl
 words false false true al co pa false ex = refl
@@ -115,35 +101,35 @@ words false false false false false false false false = refl
 words false fn tb al co true true ex = rw (never fn, never tb, never al, never co)
 words false fn tb al co false true ex = rw (never fn, never tb, never al, never co)
 
-by-parent : (p : ℕ) → «classify_identifier_by_parent» p ≡ numbered (byParent p)
-unfolding «classify_identifier_by_parent» byParent numbered
+by-parent : (p : ℕ) → «classify_identifier_by_parent» p ≡ numberOf (byParent p)
+unfolding «classify_identifier_by_parent» byParent numberOf
 by-parent p =
     rw (range 43 2 p, range 40 2 p, range 33 2 p, range 50 1 p, properties-same p)
     (go (oneOf (43 ∷ 44 ∷ 45 ∷ []) p) (oneOf (40 ∷ 41 ∷ 42 ∷ []) p) (oneOf (33 ∷ 34 ∷ 35 ∷ 50 ∷ 51 ∷ []) p) (oneOf (47 ∷ 48 ∷ 36 ∷ 46 ∷ []) p))
   where
-    go : (a b c d : Bool) → cond a (some 1) (cond b (some 7) (cond c (some 9) (cond d (some 6) (some 6)))) ≡ numbered (cond a Function (cond b TypeName (cond c Property Variable)))
+    go : (a b c d : Bool) → cond a (some 1) (cond b (some 7) (cond c (some 9) (cond d (some 6) (some 6)))) ≡ numberOf (cond a Function (cond b TypeName (cond c Property Variable)))
     go true b c d = refl
     go false true c d = refl
     go false false true d = refl
     go false false false true = refl
     go false false false false = refl
 
-bareword-same : (w : List ℕ) (p : ℕ) → «classify_bareword» w p ≡ numbered (bareword w p)
+bareword-same : (w : List ℕ) (p : ℕ) → «classify_bareword» w p ≡ numberOf (bareword w p)
 unfolding «classify_bareword» bareword judged
 bareword-same w p =
     rw (keyword-same w, range 40 2 p, range 43 2 p, range 33 2 p, range 50 4 p, range 46 2 p, tables-same p, columns-same p)
     (words (oneOf (40 ∷ 41 ∷ 42 ∷ []) p) (oneOf (43 ∷ 44 ∷ 45 ∷ []) p) (oneOf tables p) (eqb p 36) (oneOf (47 ∷ 48 ∷ 46 ∷ []) p) (eqb p 49) (isKeyword w) (eqb p 55))
 
 class-same : (source : List ℕ) (p k s e : ℕ) → slice source s e ≡ gives (record { start = s; end = e })
-    → «classify_token» k s e source p ≡ gives (numbered (classOf source p k s e))
-unfolding «classify_token» word classOf numbered _>>=_
+    → «classify_token» k s e source p ≡ gives (numberOf (classOf source p k s e))
+unfolding «classify_token» word classOf numberOf _>>=_
 class-same source p k s e w =
     rw (w, range 134 1 k, range 143 14 k, by-parent p, bareword-same (text source s e) p)
     (go (eqb k 130) (eqb k 133) (oneOf (134 ∷ 135 ∷ []) k) (oneOf operators k) (eqb k 132) (eqb k 131) (byParent p) (bareword (text source s e) p))
   where
     go : (a b c d q w : Bool) (x y : TokenClass)
-        → cond a (gives (some 4)) (cond b (gives (some 3)) (cond c (gives (some 2)) (cond d (gives (some 5)) (cond q (gives (numbered x)) (cond w (gives (numbered y)) (gives none))))))
-        ≡ gives (numbered (cond a Comment (cond b Number (cond c StringLiteral (cond d Operator (cond q x (cond w y Unclassed)))))))
+        → cond a (gives (some 4)) (cond b (gives (some 3)) (cond c (gives (some 2)) (cond d (gives (some 5)) (cond q (gives (numberOf x)) (cond w (gives (numberOf y)) (gives none))))))
+        ≡ gives (numberOf (cond a Comment (cond b Number (cond c StringLiteral (cond d Operator (cond q x (cond w y Unclassed)))))))
     go true b c d q w x y = refl
     go false true c d q w x y = refl
     go false false true d q w x y = refl
@@ -154,19 +140,13 @@ class-same source p k s e w =
 
 -- ---- the list
 
-push-same : (out : List ClassedToken) (t : Rec) (c : TokenClass) → pushClass out t (numbered c) ≡ out ++ entryOf c (t .start) (t .end)
-unfolding pushClass numbered entryOf numberOf
-push-same out t Keyword = refl
-push-same out t Function = refl
-push-same out t StringLiteral = refl
-push-same out t Number = refl
-push-same out t Comment = refl
-push-same out t Operator = refl
-push-same out t Variable = refl
-push-same out t TypeName = refl
-push-same out t Parameter = refl
-push-same out t Property = refl
-push-same out t Unclassed = sym (append-nil out)
+push-same : (out : List ClassedToken) (t : Rec) (c : TokenClass) → pushClass out t (numberOf c) ≡ out ++ entryOf c (t .start) (t .end)
+unfolding pushClass entryOf entryWith
+push-same out t c = go (numberOf c)
+  where
+    go : (n : Option ℕ) → pushClass out t n ≡ out ++ entryWith n (t .start) (t .end)
+    go none = sym (append-nil out)
+    go (some n) = refl
 
 collect-same : (source : List ℕ) (f : Forest) (p : ℕ) (out : List ClassedToken) → Reads source f → «collect_tokens» p f source out ≡ gives (out ++ classes source p f)
 unfolding «collect_tokens» classes Reads
@@ -228,12 +208,12 @@ level-leafy (r ∷ rs) k = go (ltb (r .depth) k) (ltb k (r .depth)) (isNode (r .
 
 module _ (source : List ℕ) where
   entry-rising : (c : TokenClass) (b s e : ℕ) (xs : List ClassedToken) → b ≤ s → Rising s xs → Rising b (entryOf c s e ++ xs)
-  unfolding entryOf Rising
-  entry-rising c b s e xs h w = go (eqb (numberOf c) (numberOf Unclassed))
+  unfolding entryOf entryWith Rising
+  entry-rising c b s e xs h w = go (numberOf c)
     where
-      go : (x : Bool) → Rising b (cond x [] (record { start = s; end = e; class = numberOf c } ∷ []) ++ xs)
-      go true = rising-less b s xs h w
-      go false = (h, w)
+      go : (n : Option ℕ) → Rising b (entryWith n s e ++ xs)
+      go none = rising-less b s xs h w
+      go (some n) = (h, w)
 
   -- the entries of siblings rise, where their tokens do, and with what follows them
   classes-rising : (f : Forest) (p q b : ℕ) (more : List Linked) (tail : List ClassedToken) → Leafy f → Ascending b (inOrder q f ++ more)

@@ -1,10 +1,12 @@
 -- What the entry of a token, and a turn of the walk, add to the list.
 -- Assumes nothing.
 use Prim.Native.Nat.{ℕ, _+_, _*_, _≤_, _<_}
-use mathlib.Core.Path.{_≡_, sym, _∙_}
+use mathlib.Core.Path.{_≡_, refl, sym, _∙_}
+use mathlib.Core.Option.{Option, none, some}
+use native.Mathlib.Omega.{arith}
 use mathlib.Core.List.{List, [], _∷_, _++_, append-nil}
 use native.Mathlib.Numerals.{add-one}
-use borrow.Author.Tests.{eq-eqb, ne-eqb, le-leb, lt-leb}
+use borrow.Author.Tests.{le-leb, lt-leb}
 use Rattle.table.specs.Kinds.{lastNode}
 use Rattle.table.specs.Table.{kindAt, startAt, endAt, parentAt}
 use Rattle.lent.specs.Numbers.{numberBytes}
@@ -12,18 +14,42 @@ use Rattle.lent.specs.Lists.{put, Written}
 use Rattle.lent.proofs.Writes.{written-none, written-one, written-then}
 use Rattle.classes.specs.declared.token_class.TokenClass.{TokenClass}
 use Rattle.classes.specs.TokenClass.{classOf, numberOf}
-use Rattle.scope.specs.Classes.{entryOf, classRow}
+use Rattle.classes.specs.inner.Slots.{slot, slotOf}
+use Rattle.classes.specs.declared.token_class.TokenClass.the-variants.{Keyword, Function, StringLiteral, Number, Comment, Operator, Variable, TypeName, Parameter, Property, Unclassed}
+use Rattle.scope.specs.Classes.{entryWith, entryOf, classRow}
 use Rattle.scope.specs.inner.Carried.{givenAt, givenBelow}
 
 -- ---- its entry
-module _ (c : TokenClass) (a b : ℕ) {n : ℕ} (e : n ≡ numberOf c) (out : List ℕ) (at : ℕ) where
+none-of : (c : TokenClass) → slotOf c ≡ 10 → numberOf c ≡ none
+unfolding slotOf slot numberOf
+none-of Keyword e = absurd (omega arith)
+none-of Function e = absurd (omega arith)
+none-of StringLiteral e = absurd (omega arith)
+none-of Number e = absurd (omega arith)
+none-of Comment e = absurd (omega arith)
+none-of Operator e = absurd (omega arith)
+none-of Variable e = absurd (omega arith)
+none-of TypeName e = absurd (omega arith)
+none-of Parameter e = absurd (omega arith)
+none-of Property e = absurd (omega arith)
+none-of Unclassed e = refl
+
+some-of : (c : TokenClass) → (slotOf c ≡ 10 → ⊥) → numberOf c ≡ some (slotOf c)
+unfolding slotOf slot
+some-of c h = go (numberOf c) h
+  where
+    go : (n : Option ℕ) → (slot n ≡ 10 → ⊥) → n ≡ some (slot n)
+    go none h = absurd (h refl)
+    go (some n) h = refl
+
+module _ (c : TokenClass) (a b : ℕ) {n : ℕ} (e : n ≡ slotOf c) (out : List ℕ) (at : ℕ) where
   pub class-none : n ≡ 10 → Written classRow (entryOf c a b) out at out at
-  unfolding entryOf numberOf
-  class-none h = rw (eq-eqb (numberOf c) 10 (sym e ∙ h)) (written-none classRow out at)
+  unfolding entryOf entryWith
+  class-none h = rw (none-of c (sym e ∙ h)) (written-none classRow out at)
 
   pub class-some : {out′ : List ℕ} {at′ : ℕ} → (n ≡ 10 → ⊥) → out′ ≡ put out at (a ∷ b ∷ n ∷ []) → at′ ≡ at + numberBytes * 3 → Written classRow (entryOf c a b) out at out′ at′
-  unfolding entryOf numberOf
-  class-some h q r = rw (ne-eqb (numberOf c) 10 (λ z. h (e ∙ z))) (written-one classRow (record { start = a; end = b; class = numberOf c }) out at (rw e at q) r)
+  unfolding entryOf entryWith
+  class-some h q r = rw (some-of c (λ z. h (e ∙ z))) (written-one classRow (record { start = a; end = b; class = slotOf c }) out at (rw e at q) r)
 
 -- ---- what a turn of the walk adds
 pub below-next : (source t : List ℕ) (i : ℕ) → givenBelow source t (i + 1) ≡ givenBelow source t i ++ givenAt source t i

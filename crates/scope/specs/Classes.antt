@@ -1,20 +1,23 @@
 -- Token classes: the list of document 01's section of that name.
 -- Definitions only.
 use Prim.Native.Nat.{ℕ, _*_}
-use mathlib.Core.Bool.{cond}
+use mathlib.Core.Option.{Option, none, some}
 use mathlib.Core.List.{List, [], _∷_, _++_}
-use lib.Dec.{eqb}
 use Rattle.table.specs.Table.{kindAt, records}
 use Rattle.forest.specs.Forest.{Forest, nil, token, node, kids}
 use Rattle.classes.specs.declared.token_class.TokenClass.{TokenClass}
 use Rattle.classes.specs.TokenClass.{classOf, numberOf}
-use Rattle.classes.specs.declared.token_class.TokenClass.the-variants.{Unclassed}
 use Rattle.scope.specs.declared.semantic_tokens.ClassedToken.{ClassedToken}
 use Rattle.lent.specs.Numbers.{numberBytes}
 
+-- the entry of a token with this number; without one there is none
+unfoldable pub entryWith : Option ℕ → ℕ → ℕ → List ClassedToken
+entryWith none start end = []
+entryWith (some n) start end = record { start = start; end = end; class = n } ∷ []
+
 -- the entry of a token of this class, if it has one
 unfoldable pub entryOf : TokenClass → ℕ → ℕ → List ClassedToken
-entryOf c start end = cond (eqb (numberOf c) (numberOf Unclassed)) [] (record { start = start; end = end; class = numberOf c } ∷ [])
+entryOf c = entryWith (numberOf c)
 
 -- the numbers of an entry: start, end, class
 abbrev pub classRow : ClassedToken → List ℕ

@@ -12,7 +12,7 @@ use Rattle.classes.specs.declared.token_class.TokenClass.the-variants.{Keyword,
 use Rattle.scope.specs.declared.semantic_tokens.ClassedToken.{ClassedToken}
 use Rattle.keywords.specs.Keywords.{keywords, isKeyword}
 use Rattle.classes.specs.TokenClass.{between, judged, bareword, byParent, classOf, numberOf}
-use Rattle.scope.specs.Classes.{entryOf, classes, classesOf}
+use Rattle.scope.specs.Classes.{entryWith, entryOf, classes, classesOf}
 
 -- ---- each class, by the token's kind
 
@@ -62,5 +62,5 @@ abbrev entry : ℕ → ℕ → ℕ → ClassedToken
 entry a b c = record { start = a; end = b; class = c }
 
 pub frame : classesOf source tree ≡ entry 0 6 0 ∷ entry 7 8 6 ∷ entry 10 14 0 ∷ entry 15 18 9 ∷ entry 19 20 9 ∷ []
-unfolding classes entryOf numberOf classOf bareword judged byParent between isKeyword keywords bytesOf upper text kids level from run recordAt word
+unfolding classes entryOf entryWith numberOf classOf bareword judged byParent between isKeyword keywords bytesOf upper text kids level from run recordAt word
 frame = refl

@@ -1,10 +1,11 @@
 use Rattle.classes.specs.TokenClass.{numberOf}
+use Rattle.classes.specs.inner.Slots.{slot, slotOf}
 use borrow.Author.Needs.{needs}
 use Rattle.classes.proofs.token_class.number_of.Statement.{statement}
 use Rattle.classes.proofs.token_class.number_of.Tie as tie
 
 pub number-of-spec : {M : Type 1} → statement M
-unfolding numberOf
+unfolding slotOf slot numberOf
 number-of-spec =
     tie.close
     (tie.spec
