@@ -24,7 +24,7 @@ use Rattle.rust.specs.Rust.{Run, stops, gives, Askable}
 use Rattle.rust.specs.BracketMatchingRs.{«collect_brackets», enrich, hint}
 use Rattle.rust.specs.SemanticTokensRs.{compute}
 use Rattle.rust.specs.ScopeRs.{QueryScope, «find_enclosing_statement», unquotedAt, anyLone, asBinding, Compared, compared, reference, found, scopeAt}
-use Rattle.rust.specs.CursorContextRs.{«cursor_context», told}
+use Rattle.rust.specs.CursorContextRs.{«cursor_context», asTold}
 use Rattle.demands.specs.declared.Question.{Question}
 use Rattle.demands.specs.declared.Question.the-variants.{Check, TokenClasses, OpenersLeft, BracketHint, WithNames, TableAliases, ColumnAliases, TableRefs, CursorContext, EnclosingStatement, CursorRoot, WithNamesAt, TableAliasesAt, ColumnAliasesAt, TableRefsAt, RecordsAbove, CursorContexts}
 use Rattle.demands.specs.Questions.{Asked, Said, number, rows, list, statementRecord, matter, answerOf, written}
@@ -51,7 +51,7 @@ unfoldable pub GaveEach : Asked → List ℕ → List Context → Type 0
 GaveEach a [] [] = Unit
 GaveEach a [] (c ∷ cs) = ⊥
 GaveEach a (o ∷ os) [] = ⊥
-GaveEach a (o ∷ os) (c ∷ cs) = («cursor_context» (recordAt (a .table) 0 0) (tree a) (a .source) o ≡ gives (told c)) × GaveEach a os cs
+GaveEach a (o ∷ os) (c ∷ cs) = («cursor_context» (recordAt (a .table) 0 0) (tree a) (a .source) o ≡ gives (asTold c)) × GaveEach a os cs
 
 pub record Contexts (a : Asked) (os : List ℕ) (s : Said) : Type 0 where
   pub contexts : List Context

@@ -44,7 +44,7 @@ use Rattle.contexts.specs.Trailing.{lastClause as lastClauseIn, pastClause as p
 use Rattle.contexts.specs.PathRules.{Seen, tableReference, joined, functionArgument, columnOr, column, pathRules, ruled, elseAsk, seen, byPath, pathRule}
 use Rattle.cursor.specs.CursorContext.{startsAfter, lastRule, givenOr, contextAt}
 use Rattle.rust.specs.Rust.{Run, gives, _>>=_, slice, push, find, Askable}
-use Rattle.rust.specs.CursorContextRs.{returnOr, PathNode, descend, «find_node_path», Before, skipped, «token_before_impl», «token_before_offset», textIs, saysWord, Prev, «find_ident_before_dot_impl», beforeDot, «find_identifier_before_dot», «table_ref_or_dot», columnOf, «check_dot_access», returnText, firstBareWord, «extract_function_name», Commas, «count_commas_impl», «count_commas_before», isStatementLike, clauseBefore, trailing, clauseGives, trailingOf, «check_trailing_clause», isLast, isLastOr, met, joinArm, callArm, expressionArm, returned, arm, ancestors, startsNext, fallback, «analyze_path», «cursor_context», textName, shortened, told, CursorContextRs}
+use Rattle.rust.specs.CursorContextRs.{returnOr, PathNode, descend, «find_node_path», Before, skipped, «token_before_impl», «token_before_offset», textIs, saysWord, Prev, «find_ident_before_dot_impl», beforeDot, «find_identifier_before_dot», «table_ref_or_dot», columnOf, «check_dot_access», returnText, firstBareWord, «extract_function_name», Commas, «count_commas_impl», «count_commas_before», isStatementLike, clauseBefore, trailing, clauseGives, trailingOf, «check_trailing_clause», isLast, isLastOr, met, joinArm, callArm, expressionArm, returned, arm, ancestors, startsNext, fallback, «analyze_path», «cursor_context», textName, shortened, asTold, CursorContextRs}
 use Rattle.rust.proofs.KindLists.{range-list}
 use Rattle.rust.proofs.Runs.{Gives, then-is, gives-so, gives-then}
 use Rattle.rust.proofs.Starts.{Rises, fold-late, Rooted, inside-rises, inside-rooted}
@@ -445,7 +445,7 @@ module _ (t : List ℕ) where
 
 toldAnswer : Answer → Answer
 toldAnswer GoOn = GoOn
-toldAnswer (Given c) = Given (told c)
+toldAnswer (Given c) = Given (asTold c)
 
 past-told : (k : ℕ) → toldAnswer (pastKind k) ≡ pastKind k
 unfolding pastKind
@@ -454,11 +454,11 @@ past-told k = go (oneOf (18 ∷ 19 ∷ 20 ∷ 21 ∷ 22 ∷ []) k) (eqb k 16) (e
     go : (e f s st fo : Bool)
         → toldAnswer (cond e (Given Expression) (cond f (Given (TableReference Nameless)) (cond s (Given SelectExpression) (cond st (Given SettingName) (cond fo (Given FormatName) GoOn)))))
         ≡ cond e (Given Expression) (cond f (Given (TableReference Nameless)) (cond s (Given SelectExpression) (cond st (Given SettingName) (cond fo (Given FormatName) GoOn))))
-    go true f s st fo = unfold toldAnswer told in refl
-    go false true s st fo = unfold toldAnswer told in refl
-    go false false true st fo = unfold toldAnswer told in refl
-    go false false false true fo = unfold toldAnswer told in refl
-    go false false false false true = unfold toldAnswer told in refl
+    go true f s st fo = unfold toldAnswer asTold in refl
+    go false true s st fo = unfold toldAnswer asTold in refl
+    go false false true st fo = unfold toldAnswer asTold in refl
+    go false false false true fo = unfold toldAnswer asTold in refl
+    go false false false false true = unfold toldAnswer asTold in refl
     go false false false false false = unfold toldAnswer in refl
 
 trailing-told : (t : List ℕ) (o : ℕ) (p : List Rec) → toldAnswer (trailingRule t o p) ≡ trailingRule t o p
@@ -542,12 +542,12 @@ over-same k (some l) = refl
 abbrev give : {P : Option CursorContext → Type 0} (c : Option CursorContext) → P c → Gives (gives c) P
 give c p = record { it = c; gave = refl; so = p }
 
-column-told : (other : CursorContext) (n : Name) → told other ≡ other → told (columnOr other n) ≡ columnOr other n
-unfolding columnOr told
+column-told : (other : CursorContext) (n : Name) → asTold other ≡ other → asTold (columnOr other n) ≡ columnOr other n
+unfolding columnOr asTold
 column-told other Nameless e = e
 column-told other (Named r) e = refl
 
-module _ (ref join call call′ : CursorContext) (dot : Name) (ref-told : told ref ≡ ref) (join-told : told join ≡ join) (call-told : told call′ ≡ call) where
+module _ (ref join call call′ : CursorContext) (dot : Name) (ref-told : asTold ref ≡ ref) (join-told : asTold join ≡ join) (call-told : asTold call′ ≡ call) where
   chain : (e16 e17 e5 ss e25 fs ts e37 e39 ns e15 ws xs a b c : Bool)
       → Gives
       (cond e16 (gives (some ref)) (cond e17 (gives (some join)) (cond e5 (cond a (gives (some ref)) (gives none)) (cond ss (gives (some SettingName)) (cond e25 (gives (some EngineName)) (cond fs (gives (some FormatName))
@@ -557,7 +557,7 @@ module _ (ref join call call′ : CursorContext) (dot : Name) (ref-told : told r
       (cond (e16 || false) (Given ref) (cond (e17 || false) (Given join) (cond (e5 || false) (cond a (Given ref) GoOn) (cond ss (Given SettingName) (cond (e25 || false) (Given EngineName) (cond fs (Given FormatName)
       (cond ts (Given DataType) (cond (e37 || false) (cond b (Given DataType) GoOn) (cond (e39 || false) (Given CodecName) (cond ns (Given call′)
       (cond (e15 || ws) (Given (columnOr (cond e15 SelectExpression Expression) dot)) (cond xs (cond c (Given StatementStart) GoOn) GoOn)))))))))))))
-  unfolding answer toldAnswer told
+  unfolding answer toldAnswer asTold
   chain true e17 e5 ss e25 fs ts e37 e39 ns e15 ws xs a b c = give _ (ap Given (sym ref-told))
   chain false true e5 ss e25 fs ts e37 e39 ns e15 ws xs a b c = give _ (ap Given (sym join-told))
   chain false false true ss e25 fs ts e37 e39 ns e15 ws xs true b c = give _ (ap Given (sym ref-told))
@@ -591,15 +591,15 @@ module _ (src : List ℕ) (o : ℕ) (p : List PathNode) (constrained : Bool) (co
       go false true = refl
       go false false = refl
 
-  call-same : callArm n src o ≡ gives (told (functionArgument o (n .children)))
-  unfolding callArm functionArgument told
+  call-same : callArm n src o ≡ gives (asTold (functionArgument o (n .children)))
+  unfolding callArm functionArgument asTold
   call-same = then-is _ (name-same src (n .children) y) ∙ rw (commas-same o (n .children) w)
 
-  joined-told : told (joined src o constrained (n .children)) ≡ joined src o constrained (n .children)
-  unfolding joined tableReference told
+  joined-told : asTold (joined src o constrained (n .children)) ≡ joined src o constrained (n .children)
+  unfolding joined tableReference asTold
   joined-told = go (isJoinWord src (lastTwo o (n .children)) || constrained)
     where
-      go : (b : Bool) → told (cond b Expression (TableReference (dotted src (lastTwo o (n .children))))) ≡ cond b Expression (TableReference (dotted src (lastTwo o (n .children))))
+      go : (b : Bool) → asTold (cond b Expression (TableReference (dotted src (lastTwo o (n .children))))) ≡ cond b Expression (TableReference (dotted src (lastTwo o (n .children))))
       go true = refl
       go false = refl
 
@@ -619,8 +619,8 @@ module _ (src : List ℕ) (o : ℕ) (p : List PathNode) (constrained : Bool) (co
         types-same (n .tree .kind),
         clauses-same (n .tree .kind),
       )
-      (chain (tableReference src o (n .children)) (joined src o constrained (n .children)) (told (functionArgument o (n .children))) (functionArgument o (n .children))
-      (dotted src (lastTwo o (n .children))) (unfold tableReference told in refl) joined-told refl
+      (chain (tableReference src o (n .children)) (joined src o constrained (n .children)) (asTold (functionArgument o (n .children))) (functionArgument o (n .children))
+      (dotted src (lastTwo o (n .children))) (unfold tableReference asTold in refl) joined-told refl
       (eqb (n .tree .kind) 16) (eqb (n .tree .kind) 17) (eqb (n .tree .kind) 5) (oneOf (23 ∷ 24 ∷ []) (n .tree .kind)) (eqb (n .tree .kind) 25)
       (oneOf (26 ∷ 27 ∷ []) (n .tree .kind)) (oneOf (38 ∷ 40 ∷ 41 ∷ []) (n .tree .kind)) (eqb (n .tree .kind) 37) (eqb (n .tree .kind) 39) (oneOf (43 ∷ 44 ∷ []) (n .tree .kind))
       (eqb (n .tree .kind) 15) (oneOf (18 ∷ 19 ∷ 20 ∷ 21 ∷ 22 ∷ []) (n .tree .kind)) (oneOf (1 ∷ 2 ∷ []) (n .tree .kind))
@@ -646,7 +646,7 @@ unfolding returnOr giveOr answer
 return-given none on = refl
 return-given (some c) on = refl
 
-give-told : (on : CursorContext) (x : Answer) → giveOr (gives (told on)) (toldAnswer x) ≡ gives (told (givenOr on x))
+give-told : (on : CursorContext) (x : Answer) → giveOr (gives (asTold on)) (toldAnswer x) ≡ gives (asTold (givenOr on x))
 unfolding giveOr toldAnswer givenOr
 give-told on GoOn = refl
 give-told on (Given c) = refl
@@ -722,33 +722,33 @@ module _ (src t : List ℕ) (o : ℕ) (ok : verdict t (length src) 0 ≡ Admitte
       go true b = refl
       go false b = refl
 
-  last-told : told (lastRule src t o) ≡ lastRule src t o
-  unfolding lastRule told
+  last-told : asTold (lastRule src t o) ≡ lastRule src t o
+  unfolding lastRule asTold
   last-told = go (eqb (kindAt t 0) 1 && startsAfter src (lastTwo o (inside t 0) .last))
     where
-      go : (b : Bool) → told (cond b StatementStart Unknown) ≡ cond b StatementStart Unknown
+      go : (b : Bool) → asTold (cond b StatementStart Unknown) ≡ cond b StatementStart Unknown
       go true = refl
       go false = refl
 
   abbrev whole : List Rec
   whole = recordAt t 0 0 ∷ deeper
 
-  by-path : ancestors (map (at t) whole) src o (fallback (map (at t) whole) src o) none (reverse (map (at t) whole)) ≡ gives (told (givenOr (lastRule src t o) (pathRule src t o whole)))
+  by-path : ancestors (map (at t) whole) src o (fallback (map (at t) whole) src o) none (reverse (map (at t) whole)) ≡ gives (asTold (givenOr (lastRule src t o) (pathRule src t o whole)))
   unfolding ancestors
   by-path =
       all-up src t o tidy (reads ok ask) whole (fallback (map (at t) whole) src o) whole []
       ∙ ap (λ (c : Run CursorContext). giveOr c (toldAnswer (pathRule src t o whole))) (fallback-same ∙ ap gives (sym last-told))
       ∙ give-told (lastRule src t o) (pathRule src t o whole)
 
-  analyzed : «analyze_path» (map (at t) whole) src o ≡ gives (told (givenOr (givenOr (lastRule src t o) (pathRule src t o whole)) (trailingRule t o whole)))
+  analyzed : «analyze_path» (map (at t) whole) src o ≡ gives (asTold (givenOr (givenOr (lastRule src t o) (pathRule src t o whole)) (trailingRule t o whole)))
   unfolding «analyze_path»
   analyzed =
       return-given («check_trailing_clause» (map (at t) whole) o) _
       ∙ rw (by-path, trailing-rule t o whole)
-      (ap (giveOr (gives (told (givenOr (lastRule src t o) (pathRule src t o whole))))) (sym (trailing-told t o whole))
+      (ap (giveOr (gives (asTold (givenOr (lastRule src t o) (pathRule src t o whole))))) (sym (trailing-told t o whole))
       ∙ give-told (givenOr (lastRule src t o) (pathRule src t o whole)) (trailingRule t o whole))
 
-  context-same : «cursor_context» (recordAt t 0 0) (kids (records 0 t)) src o ≡ gives (told (contextAt src t o))
+  context-same : «cursor_context» (recordAt t 0 0) (kids (records 0 t)) src o ≡ gives (asTold (contextAt src t o))
   unfolding «cursor_context» contextAt
   context-same = rw (path-same t o tidy, path-is) analyzed
 

@@ -28,7 +28,7 @@ use Rattle.forest.proofs.Sense.{admitted-tidy, whole-tree}
 use Rattle.keywords.proofs.KeywordLaws.{not-keyword}
 use Rattle.path.specs.Path.{oneOf}
 use Rattle.rust.specs.Rust.{gives, _>>=_, slice, Askable}
-use Rattle.rust.specs.SemanticTokensRs.{«is_keyword», «classify_identifier_by_parent», tables, «classify_bareword», operators, word, «classify_token», pushClass, «collect_tokens», insert, sortByStart, compute, SemanticTokensRs}
+use Rattle.rust.specs.SemanticTokensRs.{«is_keyword», «classify_identifier_by_parent», tables, «classify_bareword», operators, wordArm, «classify_token», pushClass, «collect_tokens», insert, sortByStart, compute, SemanticTokensRs}
 use Rattle.rust.proofs.KindLists.{kindsFrom, range-list}
 use Rattle.rust.proofs.Runs.{then-is}
 use Rattle.rust.proofs.Texts.{Reads, reads}
@@ -122,7 +122,7 @@ bareword-same w p =
 
 class-same : (source : List ℕ) (p k s e : ℕ) → slice source s e ≡ gives (record { start = s; end = e })
     → «classify_token» k s e source p ≡ gives (numberOf (classOf source p k s e))
-unfolding «classify_token» word classOf numberOf _>>=_
+unfolding «classify_token» wordArm classOf numberOf _>>=_
 class-same source p k s e w =
     rw (w, range 134 1 k, range 143 14 k, by-parent p, bareword-same (text source s e) p)
     (go (eqb k 130) (eqb k 133) (oneOf (134 ∷ 135 ∷ []) k) (oneOf operators k) (eqb k 132) (eqb k 131) (byParent p) (bareword (text source s e) p))

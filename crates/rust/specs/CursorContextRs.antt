@@ -364,19 +364,19 @@ shortened Nameless = Nameless
 shortened (Named r) = string r
 
 -- a context as the Rust tells it
-unfoldable pub told : CursorContext → CursorContext
-told (FunctionArgument name index) = FunctionArgument (shortened name) index
-told (TableReference prefix) = TableReference prefix
-told (ColumnOfTable qualifier) = ColumnOfTable qualifier
-told SelectExpression = SelectExpression
-told Expression = Expression
-told SettingName = SettingName
-told EngineName = EngineName
-told FormatName = FormatName
-told DataType = DataType
-told CodecName = CodecName
-told StatementStart = StatementStart
-told Unknown = Unknown
+unfoldable pub asTold : CursorContext → CursorContext
+asTold (FunctionArgument name index) = FunctionArgument (shortened name) index
+asTold (TableReference prefix) = TableReference prefix
+asTold (ColumnOfTable qualifier) = ColumnOfTable qualifier
+asTold SelectExpression = SelectExpression
+asTold Expression = Expression
+asTold SettingName = SettingName
+asTold EngineName = EngineName
+asTold FormatName = FormatName
+asTold DataType = DataType
+asTold CodecName = CodecName
+asTold StatementStart = StatementStart
+asTold Unknown = Unknown
 
 -- of record 0's tree and, of the functions that are handed a node of the path, of every record i: none stops
 pub record CursorContextRs (source t : List ℕ) (o : ℕ) : Type 0 where
@@ -385,4 +385,4 @@ pub record CursorContextRs (source t : List ℕ) (o : ℕ) : Type 0 where
   pub before-dot : (i : ℕ) → «find_identifier_before_dot» (inside t i) source o ≡ gives (dotted source (lastTwo o (inside t i)))
   pub function-name : (i : ℕ) → «extract_function_name» (inside t i) source ≡ gives (shortened (functionName (inside t i)))
   pub argument-index : (i : ℕ) → «count_commas_before» (inside t i) o ≡ arguments o (inside t i) .index
-  pub context : «cursor_context» (recordAt t 0 0) (kids (records 0 t)) source o ≡ gives (told (contextAt source t o))
+  pub context : «cursor_context» (recordAt t 0 0) (kids (records 0 t)) source o ≡ gives (asTold (contextAt source t o))

@@ -97,8 +97,8 @@ operators =
     plus ∷ 144 ∷ 145 ∷ 146 ∷ 147 ∷ 148 ∷ 149 ∷ 150 ∷ 151 ∷ 152 ∷ 153 ∷ 154 ∷ 155 ∷ 156 ∷ arrow ∷ []
 
 -- its arm of a BareWord, which reads the text
-unfoldable pub word : ℕ → ℕ → List ℕ → ℕ → Run (Option ℕ)
-word start end source parent = do
+unfoldable pub wordArm : ℕ → ℕ → List ℕ → ℕ → Run (Option ℕ)
+wordArm start end source parent = do
   s ← slice source start end
   gives («classify_bareword» (text source (s .start) (s .end)) parent)
 
@@ -110,7 +110,7 @@ unfoldable pub «classify_token» : ℕ → ℕ → ℕ → List ℕ → ℕ →
     (cond (oneOf (stringToken ∷ hereDoc ∷ []) kind) (gives (some «TT_STRING»))
     (cond (oneOf operators kind) (gives (some «TT_OPERATOR»))
     (cond (eqb kind quotedIdentifier) (gives («classify_identifier_by_parent» parent))
-    (cond (eqb kind bareWord) (word start end source parent)
+    (cond (eqb kind bareWord) (wordArm start end source parent)
     (gives none))))))
 
 -- `if let Some(tt) = ..`, then `out.push((token.start, token.end, tt))`
