@@ -1,5 +1,6 @@
 -- Demand 1: every question gives an answer or a refusal of document 01's table, or document 02's 10 or 12. A refusal is given exactly when its condition holds and
 -- none before it in the order does, with its detail; and then every byte of the lent buffer is as it was.
+-- No caller need check anything first: `ask` has no `requires`, and this is said of every table, source, message, offset, offsets, record and buffer.
 -- Definitions only; it is a contract of `ask` (src/lib.rt), and proofs/Stages.antt, Replies.antt and Promises.antt say why it holds.
 use Prim.Native.Nat.{ℕ, _+_, _*_, _≤_, _<_}
 use mathlib.Core.Path.{_≡_}

@@ -1,8 +1,8 @@
 -- Demand 2, the Rust: over valid UTF-8, with tokens cut between characters, each answer equals the Rust's too; the Rust's one stop, at a lone quote
 -- mark, is a listed difference (docs/DIFFERENCES.md).
 -- `Agrees` has a line for each question: which functions of the Rust are asked (their transcriptions are the crate rust), of which tree, and how what
--- they give is told as a number or in rows. To four questions the Rust has no word, and nothing is claimed: whether a table is refused, the cursor's
--- root, the records above a record, and behind the root's own the WITH names that it sees of the queries around it.
+-- they give is told as a number or in rows. To three questions the Rust has no word, and nothing is claimed of them: whether a table is refused, the
+-- cursor's root, and the records above a record. Of the WITH names at a cursor the root's own are compared, which come first.
 -- Definitions only; the theorem is `second-reading` in proofs/SecondReading.antt.
 use Prim.Native.Nat.{ℕ}
 use mathlib.Core.Path.{_≡_}
