@@ -22,7 +22,7 @@ use Rattle.cursors.specs.Cursors.{offsetsOf}
 use Rattle.cursor_root.specs.Root.{rootAt}
 use Rattle.cursor_root.proofs.RootLaws.{root-node}
 use Rattle.replies.specs.Reply.{hintRecord}
-use Rattle.rust.specs.Rust.{Run, stops, gives, Askable}
+use Rattle.rust.specs.Rust.{Call, stops, gives, Askable}
 use Rattle.rust.specs.ScopeRs.{QueryScope, scopeAt, FourLists}
 use Rattle.rust.proofs.BracketMatchingRs.{bracket-matching-rs}
 use Rattle.rust.proofs.SemanticTokensRs.{semantic-tokens-rs}
@@ -49,7 +49,7 @@ module _ (a : Asked) (ask : Askable (a .source) (a .table)) where
       scoped : ((q : QueryScope) → FourLists source t i q → P q) → Scoped a i P
       scoped f = go (scopeAt source t i) refl
         where
-          go : (run : Run QueryScope) → scopeAt source t i ≡ run → Scoped a i P
+          go : (run : Call QueryScope) → scopeAt source t i ≡ run → Scoped a i P
           go stops e = lone-mark (scope-rs source t ok ask .stops-exactly i h .0 e) e
           go (gives q) e = lists (record { it = q; gave = e; so = f q (scope-rs source t ok ask .four-lists i h q e) })
 

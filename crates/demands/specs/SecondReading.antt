@@ -20,7 +20,7 @@ use Rattle.contexts.specs.Context.{contextRow}
 use Rattle.cursors.specs.Cursors.{offsetsOf}
 use Rattle.cursor_root.specs.Root.{rootAt}
 use Rattle.replies.specs.Reply.{packed, answered, hintRecord}
-use Rattle.rust.specs.Rust.{Run, stops, gives, Askable}
+use Rattle.rust.specs.Rust.{Call, stops, gives, Askable}
 use Rattle.rust.specs.BracketMatchingRs.{«collect_brackets», enrich, hint}
 use Rattle.rust.specs.SemanticTokensRs.{compute}
 use Rattle.rust.specs.ScopeRs.{QueryScope, «find_enclosing_statement», unquotedAt, anyLone, asBinding, Compared, compared, reference, found, scopeAt}
@@ -36,7 +36,7 @@ abbrev pub tree : Asked → Forest
 tree a = kids (records 0 (a .table))
 
 -- a call of the Rust gives something of which P is true
-pub record Gave {A : Type 0} (run : Run A) (P : A → Type 0) : Type 0 where
+pub record Gave {A : Type 0} (run : Call A) (P : A → Type 0) : Type 0 where
   pub it : A
   pub gave : run ≡ gives it
   pub so : P it

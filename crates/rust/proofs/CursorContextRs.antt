@@ -43,10 +43,10 @@ use Rattle.tokens.specs.Function.{bareWordIn, orName, functionName, opens, argu
 use Rattle.contexts.specs.Trailing.{lastClause as lastClauseIn, pastClause as pastKind, pastEnd, trailingIn, trailingRule}
 use Rattle.contexts.specs.PathRules.{Seen, tableReference, joined, functionArgument, columnOr, column, pathRules, ruled, elseAsk, seen, byPath, pathRule}
 use Rattle.cursor.specs.CursorContext.{startsAfter, lastRule, givenOr, contextAt}
-use Rattle.rust.specs.Rust.{Run, gives, _>>=_, slice, push, find, Askable}
+use Rattle.rust.specs.Rust.{Call, gives, _>>=_, slice, push, find, Askable}
 use Rattle.rust.specs.CursorContextRs.{returnOr, PathNode, descend, «find_node_path», Before, skipped, «token_before_impl», «token_before_offset», textIs, saysWord, Prev, «find_ident_before_dot_impl», beforeDot, «find_identifier_before_dot», «table_ref_or_dot», columnOf, «check_dot_access», returnText, firstBareWord, «extract_function_name», Commas, «count_commas_impl», «count_commas_before», isStatementLike, clauseBefore, trailing, clauseGives, trailingOf, «check_trailing_clause», isLast, isLastOr, met, joinArm, callArm, expressionArm, returned, arm, ancestors, startsNext, fallback, «analyze_path», «cursor_context», textName, shortened, asTold, CursorContextRs}
 use Rattle.rust.proofs.KindLists.{range-list}
-use Rattle.rust.proofs.Runs.{Gives, then-is, gives-so, gives-then}
+use Rattle.rust.proofs.Calls.{Gives, then-is, gives-so, gives-then}
 use Rattle.rust.proofs.Starts.{Rises, fold-late, Rooted, inside-rises, inside-rooted}
 use Rattle.rust.proofs.Texts.{Reads, reads}
 
@@ -230,7 +230,7 @@ module _ (src : List ℕ) where
   unfolding returnText shortened
   text-same t e = then-is _ e
 
-  bare-same : (f : Forest) (on : Name) (run : Run Name) → Reads src f → run ≡ gives (shortened on) → firstBareWord f src run ≡ gives (shortened (orName (bareWordIn f) on))
+  bare-same : (f : Forest) (on : Name) (run : Call Name) → Reads src f → run ≡ gives (shortened on) → firstBareWord f src run ≡ gives (shortened (orName (bareWordIn f) on))
   unfolding firstBareWord bareWordIn orName Reads
   bare-same nil on run w e = e
   bare-same (token r rest) on run w e = rw (text-same r (w .0 .text)) (go (eqb (r .kind) 131) (bare-same rest on run (w .1) e))
@@ -632,16 +632,16 @@ unfolding ruled pathRules
 error-none src o k n e = rw e
 
 -- a call that is made where an answer goes on
-giveOr : Run CursorContext → Answer → Run CursorContext
+giveOr : Call CursorContext → Answer → Call CursorContext
 giveOr on GoOn = on
 giveOr on (Given c) = gives c
 
-given-both : (x y : Answer) (on : Run CursorContext) → giveOr (giveOr on (toldAnswer y)) (toldAnswer x) ≡ giveOr on (toldAnswer (elseAsk x y))
+given-both : (x y : Answer) (on : Call CursorContext) → giveOr (giveOr on (toldAnswer y)) (toldAnswer x) ≡ giveOr on (toldAnswer (elseAsk x y))
 unfolding giveOr toldAnswer elseAsk
 given-both GoOn y on = refl
 given-both (Given c) y on = refl
 
-return-given : (x : Option CursorContext) (on : Run CursorContext) → returnOr x on ≡ giveOr on (answer x)
+return-given : (x : Option CursorContext) (on : Call CursorContext) → returnOr x on ≡ giveOr on (answer x)
 unfolding returnOr giveOr answer
 return-given none on = refl
 return-given (some c) on = refl
@@ -661,11 +661,11 @@ unfolding nextIs kindOf nextOf
 next-of [] = refl
 next-of (r ∷ rs) = refl
 
-module _ (src t : List ℕ) (o : ℕ) {m : ℕ} (tidy : Tidy t m) (read : (i : ℕ) → Reads src (inside t i)) (path : List Rec) (behind : Run CursorContext) where
+module _ (src t : List ℕ) (o : ℕ) {m : ℕ} (tidy : Tidy t m) (read : (i : ℕ) → Reads src (inside t i)) (path : List Rec) (behind : Call CursorContext) where
   abbrev constrained : Bool
   constrained = onPath 28 path
 
-  abbrev going : Option ℕ → List PathNode → Run CursorContext
+  abbrev going : Option ℕ → List PathNode → Call CursorContext
   going = ancestors (map (at t) path) src o behind
 
   -- the answer of a rule, as the Rust tells it
@@ -691,7 +691,7 @@ module _ (src t : List ℕ) (o : ℕ) {m : ℕ} (tidy : Tidy t m) (read : (i : �
   all-up [] above = unfold giveOr toldAnswer in refl
   all-up (r ∷ p) above =
       all-up p (at t r ∷ above)
-      ∙ ap (λ (c : Run CursorContext). giveOr c (toldAnswer (byPath src t o constrained p))) (one-up r p above)
+      ∙ ap (λ (c : Call CursorContext). giveOr c (toldAnswer (byPath src t o constrained p))) (one-up r p above)
       ∙ given-both (byPath src t o constrained p) _ (going (some (r .kind)) above)
 
 -- ---- the theorem
@@ -737,7 +737,7 @@ module _ (src t : List ℕ) (o : ℕ) (ok : verdict t (length src) 0 ≡ Admitte
   unfolding ancestors
   by-path =
       all-up src t o tidy (reads ok ask) whole (fallback (map (at t) whole) src o) whole []
-      ∙ ap (λ (c : Run CursorContext). giveOr c (toldAnswer (pathRule src t o whole))) (fallback-same ∙ ap gives (sym last-told))
+      ∙ ap (λ (c : Call CursorContext). giveOr c (toldAnswer (pathRule src t o whole))) (fallback-same ∙ ap gives (sym last-told))
       ∙ give-told (lastRule src t o) (pathRule src t o whole)
 
   analyzed : «analyze_path» (map (at t) whole) src o ≡ gives (asTold (givenOr (givenOr (lastRule src t o) (pathRule src t o whole)) (trailingRule t o whole)))

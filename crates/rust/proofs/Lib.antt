@@ -1,7 +1,7 @@
 pub mod BracketMatchingRs
+pub mod Calls
 pub mod CursorContextRs
 pub mod KindLists
-pub mod Runs
 pub mod ScopeRs
 pub mod SemanticTokensRs
 pub mod Starts

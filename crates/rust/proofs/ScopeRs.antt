@@ -1,5 +1,5 @@
 -- The Rust's scope and document 01's say the same. The Rust makes its four lists at once, in one pass that pushes and may stop; document 01 has each by
--- itself: `Grown` says what a part of the pass adds to each, and `Came` (proofs/Runs.antt) where it stops.
+-- itself: `Grown` says what a part of the pass adds to each, and `Came` (proofs/Calls.antt) where it stops.
 -- Assumes nothing.
 use Prim.Native.Nat.{ℕ, _+_, _<_, _≤_}
 use mathlib.Core.Path.{_≡_, refl, sym, ap, _∙_}
@@ -37,10 +37,10 @@ use Rattle.statement.specs.Statement.{itself, isStatement, orElse, firstFind, e
 use Rattle.scope.proofs.Lists.{mapped, collection-map, tables-map}
 use Rattle.roots.specs.Reach.{oneOrTwo, hasOneOrTwo}
 use Rattle.roots.proofs.Counts.{decide}
-use Rattle.rust.specs.Rust.{Run, stops, gives, _>>=_, push, Askable}
+use Rattle.rust.specs.Rust.{Call, stops, gives, _>>=_, push, Askable}
 use Rattle.rust.specs.ScopeRs.{Binding, Reference, QueryScope, pushCte, pushTableAlias, pushColumnAlias, pushTableRef, unquote, saysAs, bindingOf, «extract_cte», pushIfCte, «collect_ctes», Ident, «extract_alias_name», parts, byParts, «extract_table_identifier», flush, nameIfPending, setAlias, pushAlias, «collect_table_refs», pushIfAlias, «collect_column_aliases», body, eachChild, «collect_scope», «build_scope», isStatementKind, orReturn, enclosing, deeperStatement, isQuoted, firstQuoted, givenIn, unquotedItems, unquotedColumns, unquotedReading, ownUnquoted, unquotedAt, isLone, anyLone, rangeOr, asBinding, Compared, compared, reference, found, scopeAt, FourLists, ScopeRs}
 use Rattle.rust.proofs.KindLists.{range-list}
-use Rattle.rust.proofs.Runs.{Gives, then-is, Came, halts, goes, came, came-eq, came-so, came-then}
+use Rattle.rust.proofs.Calls.{Gives, then-is, Came, halts, goes, came, came-eq, came-so, came-then}
 use Rattle.rust.proofs.Texts.{ReadAt, Reads, reads}
 
 -- ---- names
@@ -350,7 +350,7 @@ module _ (src : List ℕ) where
         (cond c (unquotedReading false below ++ unquotedReading (held p) rest)
         (cond d (unquotedReading false below ++ unquotedReading false rest) (unquotedReading (held p) rest))))
 
-    abbrev running : Bool → Bool → Bool → Bool → Run QueryScope
+    abbrev running : Bool → Bool → Bool → Bool → Call QueryScope
     running a b c d =
         cond a («extract_table_identifier» r below src >>= (λ q. «collect_table_refs» q rest src (flush p s)))
         (cond b (nameIfPending p below src >>= (λ i. «collect_table_refs» (setAlias p i) rest src (pushAlias p i r s)))
@@ -401,7 +401,7 @@ module _ (src : List ℕ) where
       came-then _ (go (eqb (r .kind) 30) (clause-came (r .kind) below s (w .0) (λ s. each-came below s (w .0)) (clause (r .kind))))
       (λ s′ q. came-so (λ s″ q′. grown-then q q′) (each-came rest s′ (w .1)))
     where
-      go : (b : Bool) {u : List Rec} {run : Run QueryScope} {w a c : List NameBinding} {x : List Compared} → Came src u run (λ s′. Grown s s′ w a c x)
+      go : (b : Bool) {u : List Rec} {run : Call QueryScope} {w a c : List NameBinding} {x : List Compared} → Came src u run (λ s′. Grown s s′ w a c x)
           → Came src (cond b [] u) (cond b (gives s) run) (λ s′. Grown s s′ (cond b [] w) (cond b [] a) (cond b [] c) (cond b [] x))
       go true g = came s (grown-none s)
       go false g = g
@@ -473,7 +473,7 @@ module _ {E : Type 0} (own : ℕ → Forest → List E) (t : List ℕ) (i : ℕ)
       rw (a, b, inside-level)
 
 -- a call that stops gives nothing
-not-both : {A : Type 0} {run : Run A} {x : A} → run ≡ stops → run ≡ gives x → ⊥
+not-both : {A : Type 0} {run : Call A} {x : A} → run ≡ stops → run ≡ gives x → ⊥
 not-both p q = let w : _≡_ {A = ℕ} 0 1 = cc in omega arith
 
 true-false : {b : Bool} → b ≡ true → b ≡ false → ⊥

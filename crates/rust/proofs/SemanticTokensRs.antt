@@ -30,7 +30,7 @@ use Rattle.path.specs.Path.{oneOf}
 use Rattle.rust.specs.Rust.{gives, _>>=_, slice, Askable}
 use Rattle.rust.specs.SemanticTokensRs.{«is_keyword», «classify_identifier_by_parent», tables, «classify_bareword», operators, wordArm, «classify_token», pushClass, «collect_tokens», insert, sortByStart, compute, SemanticTokensRs}
 use Rattle.rust.proofs.KindLists.{kindsFrom, range-list}
-use Rattle.rust.proofs.Runs.{then-is}
+use Rattle.rust.proofs.Calls.{then-is}
 use Rattle.rust.proofs.Texts.{Reads, reads}
 
 keyword-same : (w : List ℕ) → «is_keyword» w ≡ isKeyword w

@@ -31,7 +31,7 @@ use Rattle.names.specs.Names.{byteAt, unquoted}
 use Rattle.roots.proofs.Counts.{decide}
 use Rattle.utf8.specs.Utf8.{further, isAmong, Utf8, Between}
 use Rattle.utf8.proofs.Utf8.{nothing, begins, behind, between-or}
-use Rattle.rust.specs.Rust.{Run, stops, gives, isCharBoundary, slice, GivenExactly, textOf, Askable, NoTextStops}
+use Rattle.rust.specs.Rust.{Call, stops, gives, isCharBoundary, slice, GivenExactly, textOf, Askable, NoTextStops}
 use Rattle.rust.specs.ScopeRs.{unquote, isLone}
 use Rattle.rust.proofs.Starts.{inside-all}
 
@@ -94,7 +94,7 @@ unfolding slice
 slice-between s u a e = go (isCharBoundary s a) (isCharBoundary s e) refl refl
   where
     go : (b c : Bool) → isCharBoundary s a ≡ b → isCharBoundary s e ≡ c
-        → cond {A = Run Range} (leb a e && (b && c)) (gives (record { start = a; end = e })) stops ≡ gives (record { start = a; end = e }) → Between s a × Between s e
+        → cond {A = Call Range} (leb a e && (b && c)) (gives (record { start = a; end = e })) stops ≡ gives (record { start = a; end = e }) → Between s a × Between s e
     go true true x y p = (boundary-between s u a x, boundary-between s u e y)
     go true false x y p = absurd (never (leb a e) p)
     go false c x y p = absurd (never (leb a e) p)
@@ -110,7 +110,7 @@ module _ (src : List ℕ) (s : Range) (h : s .start ≤ s .end) (x : Between src
   cut = record { start = s .start + 1; end = s .end - 1 }
 
   -- of the first byte b and the last byte z
-  marked : (b z : ℕ) (r : Run Range) → (b < 128 → z ≡ b → r ≡ gives cut)
+  marked : (b z : ℕ) (r : Call Range) → (b < 128 → z ≡ b → r ≡ gives cut)
       → cond ((eqb b 96 && eqb z 96) || (eqb b 34 && eqb z 34)) r (gives s) ≡ gives (cond ((eqb b 96 || eqb b 34) && eqb z b) cut s)
   marked b z r f =
       decide b 96

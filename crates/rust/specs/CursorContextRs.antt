@@ -20,14 +20,14 @@ use Rattle.path.specs.Path.{pathAt, oneOf}
 use Rattle.tokens.specs.LastToken.{lastTwo, dotted}
 use Rattle.tokens.specs.Function.{functionName, arguments}
 use Rattle.cursor.specs.CursorContext.{contextAt}
-use Rattle.rust.specs.Rust.{Run, gives, _>>=_, textOf, push, find}
+use Rattle.rust.specs.Rust.{Call, gives, _>>=_, textOf, push, find}
 
 -- enum CursorContext is the library's own, whose `Name` is an `Option<String>`. The name of a function is a `String`: where it is empty, it stands nowhere
 unfoldable pub string : Range → Name
 string s = cond (ltb (s .start) (s .end)) (Named s) Nameless
 
 -- `return` what is there, else go on
-unfoldable pub returnOr : Option CursorContext → Run CursorContext → Run CursorContext
+unfoldable pub returnOr : Option CursorContext → Call CursorContext → Call CursorContext
 returnOr none on = on
 returnOr (some c) on = gives c
 
@@ -64,25 +64,25 @@ abbrev pub skipped : ℕ → Bool
 skipped kind = eqb kind whitespace || eqb kind comment
 
 -- fn token_before_impl(tree, source, offset, parent_kind, best)
-unfoldable pub «token_before_impl» : Forest → List ℕ → ℕ → ℕ → Option Before → Run (Option Before)
+unfoldable pub «token_before_impl» : Forest → List ℕ → ℕ → ℕ → Option Before → Call (Option Before)
 «token_before_impl» nil source offset «parent_kind» best = gives best
 «token_before_impl» (token t rest) source offset «parent_kind» best =
-    let on : Run (Option Before) = «token_before_impl» rest source offset «parent_kind» best in
-    let better : Run (Option Before) = do
+    let on : Call (Option Before) = «token_before_impl» rest source offset «parent_kind» best in
+    let better : Call (Option Before) = do
       s ← textOf source t
       «token_before_impl» rest source offset «parent_kind» (some (record { text = s; parent = «parent_kind» }))
     in
     cond (skipped (t .kind)) on (cond (leb (t .start) offset) better on)
 «token_before_impl» (node subtree children rest) source offset «parent_kind» best =
-    let on : Run (Option Before) = «token_before_impl» rest source offset «parent_kind» best in
-    let inside : Run (Option Before) = do
+    let on : Call (Option Before) = «token_before_impl» rest source offset «parent_kind» best in
+    let inside : Call (Option Before) = do
       b ← «token_before_impl» children source offset (subtree .kind) best
       «token_before_impl» rest source offset «parent_kind» b
     in
     cond (ltb (subtree .end) (subtree .start)) on (cond (leb (subtree .start) offset) inside on)
 
 -- fn token_before_offset(tree, source, offset)
-unfoldable pub «token_before_offset» : Rec → Forest → List ℕ → ℕ → Run (Option Before)
+unfoldable pub «token_before_offset» : Rec → Forest → List ℕ → ℕ → Call (Option Before)
 «token_before_offset» tree children source offset = «token_before_impl» children source offset (tree .kind) none
 
 -- `if let Some((prev_text, _))`, and prev_text is the word
@@ -144,18 +144,18 @@ pub record Prev : Type 0 where
   pub prev : Name
 
 -- fn find_ident_before_dot_impl(tree, source, offset, prev_prev, prev): returns at a token that starts after the offset
-unfoldable pub «find_ident_before_dot_impl» : Forest → List ℕ → ℕ → Prev → Run Prev
+unfoldable pub «find_ident_before_dot_impl» : Forest → List ℕ → ℕ → Prev → Call Prev
 «find_ident_before_dot_impl» nil source offset p = gives p
 «find_ident_before_dot_impl» (token t rest) source offset p =
-    let on : Run Prev = «find_ident_before_dot_impl» rest source offset p in
-    let next : Run Prev = do
+    let on : Call Prev = «find_ident_before_dot_impl» rest source offset p in
+    let next : Call Prev = do
       s ← textOf source t
       «find_ident_before_dot_impl» rest source offset (record { «prev_prev» = p .prev; prev = Named s })
     in
     cond (skipped (t .kind)) on (cond (ltb offset (t .start)) (gives p) next)
 «find_ident_before_dot_impl» (node subtree children rest) source offset p =
-    let on : Run Prev = «find_ident_before_dot_impl» rest source offset p in
-    let inside : Run Prev = do
+    let on : Call Prev = «find_ident_before_dot_impl» rest source offset p in
+    let inside : Call Prev = do
       q ← «find_ident_before_dot_impl» children source offset p
       «find_ident_before_dot_impl» rest source offset q
     in
@@ -167,15 +167,15 @@ beforeDot source «prev_prev» Nameless = Nameless
 beforeDot source «prev_prev» (Named r) = cond (same (text source (r .start) (r .end)) (bytesOf ".")) «prev_prev» Nameless
 
 -- fn find_identifier_before_dot(tree, source, offset)
-unfoldable pub «find_identifier_before_dot» : Forest → List ℕ → ℕ → Run Name
+unfoldable pub «find_identifier_before_dot» : Forest → List ℕ → ℕ → Call Name
 «find_identifier_before_dot» children source offset = do
   p ← «find_ident_before_dot_impl» children source offset (record { «prev_prev» = Nameless; prev = Nameless })
   gives (beforeDot source (p .«prev_prev») (p .prev))
 
 -- fn table_ref_or_dot(tree, source, offset)
-unfoldable pub «table_ref_or_dot» : PathNode → List ℕ → ℕ → Run CursorContext
+unfoldable pub «table_ref_or_dot» : PathNode → List ℕ → ℕ → Call CursorContext
 «table_ref_or_dot» n source offset =
-    let prefixed : Run CursorContext = do
+    let prefixed : Call CursorContext = do
       db ← «find_identifier_before_dot» (n .children) source offset
       gives (TableReference db)
     in
@@ -189,9 +189,9 @@ columnOf Nameless = none
 columnOf (Named r) = some (ColumnOfTable r)
 
 -- fn check_dot_access(tree, source, offset)
-unfoldable pub «check_dot_access» : PathNode → List ℕ → ℕ → Run (Option CursorContext)
+unfoldable pub «check_dot_access» : PathNode → List ℕ → ℕ → Call (Option CursorContext)
 «check_dot_access» n source offset =
-    let qualified : Run (Option CursorContext) = do
+    let qualified : Call (Option CursorContext) = do
       qualifier ← «find_identifier_before_dot» (n .children) source offset
       gives (columnOf qualifier)
     in
@@ -202,29 +202,29 @@ unfoldable pub «check_dot_access» : PathNode → List ℕ → ℕ → Run (Opt
 -- ---- a function's argument
 
 -- `return token.text(source).to_string()`
-unfoldable pub returnText : List ℕ → Rec → Run Name
+unfoldable pub returnText : List ℕ → Rec → Call Name
 returnText source t = do
   s ← textOf source t
   gives (string s)
 
 -- the inner `for sub_child`, and where it returns nothing, on
-unfoldable pub firstBareWord : Forest → List ℕ → Run Name → Run Name
+unfoldable pub firstBareWord : Forest → List ℕ → Call Name → Call Name
 firstBareWord nil source on = on
 firstBareWord (token t rest) source on =
-    let more : Run Name = firstBareWord rest source on in
+    let more : Call Name = firstBareWord rest source on in
     cond (eqb (t .kind) bareWord) (returnText source t) more
 firstBareWord (node subtree children rest) source on = firstBareWord rest source on
 
 -- fn extract_function_name(tree, source): breaks behind a `(`
-unfoldable pub «extract_function_name» : Forest → List ℕ → Run Name
+unfoldable pub «extract_function_name» : Forest → List ℕ → Call Name
 «extract_function_name» nil source = gives Nameless
 «extract_function_name» (token t rest) source =
-    let on : Run Name = «extract_function_name» rest source in
-    let next : Run Name = cond (eqb (t .kind) openingRound) (gives Nameless) on in
+    let on : Call Name = «extract_function_name» rest source in
+    let next : Call Name = cond (eqb (t .kind) openingRound) (gives Nameless) on in
     cond (eqb (t .kind) bareWord) (returnText source t) next
 «extract_function_name» (node subtree children rest) source =
-    let on : Run Name = «extract_function_name» rest source in
-    let inside : Run Name = firstBareWord children source on in
+    let on : Call Name = «extract_function_name» rest source in
+    let inside : Call Name = firstBareWord children source on in
     cond (eqb (subtree .kind) identifier) inside on
 
 -- count and inside_parens
@@ -268,35 +268,35 @@ met none = false
 met (some n) = true
 
 -- the arm of a JOIN
-unfoldable pub joinArm : PathNode → List PathNode → List ℕ → ℕ → Run CursorContext
+unfoldable pub joinArm : PathNode → List PathNode → List ℕ → ℕ → Call CursorContext
 joinArm n path source offset =
-    let on : Run CursorContext = «table_ref_or_dot» n source offset in
-    let constrained : Run CursorContext =
+    let on : Call CursorContext = «table_ref_or_dot» n source offset in
+    let constrained : Call CursorContext =
     cond (met (find (λ (pn : PathNode). eqb (pn .tree .kind) joinConstraint) (reverse path))) (gives Expression) on in
     do
       prev ← «token_before_offset» (n .tree) (n .children) source offset
       cond (saysWord (bytesOf "ON") source prev || saysWord (bytesOf "USING") source prev) (gives Expression) constrained
 
 -- the arm of a function call
-unfoldable pub callArm : PathNode → List ℕ → ℕ → Run CursorContext
+unfoldable pub callArm : PathNode → List ℕ → ℕ → Call CursorContext
 callArm n source offset = do
   name ← «extract_function_name» (n .children) source
   gives (FunctionArgument name («count_commas_before» (n .children) offset))
 
 -- the arm of a clause of expressions: `if let Some(ctx) = check_dot_access(..)`, else the other
-unfoldable pub expressionArm : PathNode → List ℕ → ℕ → CursorContext → Run CursorContext
+unfoldable pub expressionArm : PathNode → List ℕ → ℕ → CursorContext → Call CursorContext
 expressionArm n source offset other = do
   ctx ← «check_dot_access» n source offset
   returnOr ctx (gives other)
 
 -- `return` of a call
-unfoldable pub returned : Run CursorContext → Run (Option CursorContext)
+unfoldable pub returned : Call CursorContext → Call (Option CursorContext)
 returned call = do
   c ← call
   gives (some c)
 
 -- the `match node.kind` of `analyze_path`: what it returns, if it returns
-unfoldable pub arm : PathNode → Option ℕ → List PathNode → List ℕ → ℕ → Run (Option CursorContext)
+unfoldable pub arm : PathNode → Option ℕ → List PathNode → List ℕ → ℕ → Call (Option CursorContext)
 arm n next path source offset =
     let kind : ℕ = n .tree .kind in
     cond (eqb kind fromClause) (returned («table_ref_or_dot» n source offset))
@@ -315,11 +315,11 @@ arm n next path source offset =
     (gives none)))))))))))))
 
 -- the loop over `path.iter().enumerate().rev()`, and what stands behind it
-unfoldable pub ancestors : List PathNode → List ℕ → ℕ → Run CursorContext → Option ℕ → List PathNode → Run CursorContext
+unfoldable pub ancestors : List PathNode → List ℕ → ℕ → Call CursorContext → Option ℕ → List PathNode → Call CursorContext
 ancestors path source offset behind next [] = behind
 ancestors path source offset behind next (n ∷ above) =
-    let on : Run CursorContext = ancestors path source offset behind (some (n .tree .kind)) above in
-    let asked : Run CursorContext = do
+    let on : Call CursorContext = ancestors path source offset behind (some (n .tree .kind)) above in
+    let asked : Call CursorContext = do
       c ← arm n next path source offset
       returnOr c on
     in
@@ -331,24 +331,24 @@ startsNext source none = true
 startsNext source (some b) = textIs (bytesOf ";") source (some b)
 
 -- the fallback, by `path.first()`
-unfoldable pub fallback : List PathNode → List ℕ → ℕ → Run CursorContext
+unfoldable pub fallback : List PathNode → List ℕ → ℕ → Call CursorContext
 fallback [] source offset = gives Unknown
 fallback (root ∷ path) source offset =
-    let inFile : Run CursorContext = do
+    let inFile : Call CursorContext = do
       b ← «token_before_offset» (root .tree) (root .children) source offset
       gives (cond (startsNext source b) StatementStart Unknown)
     in
     cond (eqb (root .tree .kind) file) inFile (gives Unknown)
 
 -- fn analyze_path(path, source, offset)
-unfoldable pub «analyze_path» : List PathNode → List ℕ → ℕ → Run CursorContext
+unfoldable pub «analyze_path» : List PathNode → List ℕ → ℕ → Call CursorContext
 «analyze_path» [] source offset = gives Unknown
 «analyze_path» (root ∷ more) source offset =
     let path : List PathNode = root ∷ more in
     returnOr («check_trailing_clause» path offset) (ancestors path source offset (fallback path source offset) none (reverse path))
 
 -- fn cursor_context(tree, source, offset)
-unfoldable pub «cursor_context» : Rec → Forest → List ℕ → ℕ → Run CursorContext
+unfoldable pub «cursor_context» : Rec → Forest → List ℕ → ℕ → Call CursorContext
 «cursor_context» tree children source offset = «analyze_path» («find_node_path» tree children offset) source offset
 
 -- ---- the second reading says the same

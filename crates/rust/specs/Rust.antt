@@ -3,7 +3,7 @@
 --     `for child in &tree.children` is the recursion on the siblings: `token` is SyntaxChild::Token, `node` is SyntaxChild::Tree
 --     what is `&mut` is handed in and given back; a `return` out of a loop leaves the rest unread
 --     a `Vec` is a list in its order; a `&str` or a `String` is the range of the source where it stands
---     a call gives something or stops (`Run`), and what stops within it stops all of it
+--     a call gives something or stops (`Call`), and what stops within it stops all of it
 -- A definition that has the name of a function of the Rust is that function. They stand in the order of the Rust's file, but for one that is used
 -- by an earlier one: it stands before its first use. These are the library functions that it uses.
 -- Definitions only.
@@ -26,12 +26,12 @@ infixl 10 _>>=_
 -- ---- a call
 
 -- it stops, or gives something
-pub data Run (A : Type 0) : Type 0 where
-  stops : Run A
-  gives : A → Run A
+pub data Call (A : Type 0) : Type 0 where
+  stops : Call A
+  gives : A → Call A
 
 -- one call and then, with what it gives, the next: what `do` means below
-unfoldable pub _>>=_ : {A B : Type 0} → Run A → (A → Run B) → Run B
+unfoldable pub _>>=_ : {A B : Type 0} → Call A → (A → Call B) → Call B
 _>>=_ stops next = stops
 _>>=_ (gives x) next = next x
 
@@ -42,7 +42,7 @@ unfoldable pub isCharBoundary : List ℕ → ℕ → Bool
 isCharBoundary s i = eqb i 0 || (eqb i (length s) || (ltb i (length s) && not (isAmong further (getD s i 0))))
 
 -- `&source[start..end]`, which stops where it cuts a character, runs past the end or starts behind its own end
-unfoldable pub slice : List ℕ → ℕ → ℕ → Run Range
+unfoldable pub slice : List ℕ → ℕ → ℕ → Call Range
 slice source start end =
     cond (leb start end && (isCharBoundary source start && isCharBoundary source end)) (gives (record { start = start; end = end })) stops
 
@@ -51,7 +51,7 @@ abbrev pub GivenExactly : List ℕ → Type 0
 GivenExactly source = (start end : ℕ) → start ≤ end → (slice source start end ≡ gives (record { start = start; end = end })) ↔ (Between source start × Between source end)
 
 -- Token::text(source)
-abbrev pub textOf : List ℕ → Rec → Run Range
+abbrev pub textOf : List ℕ → Rec → Call Range
 textOf source t = slice source (t .start) (t .end)
 
 -- valid UTF-8, with the tokens of the table t cut between characters

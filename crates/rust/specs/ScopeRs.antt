@@ -24,7 +24,7 @@ use Rattle.scope.specs.Scope.{withNames, tableAliases, columnAliases, tableRefs
 use Rattle.statement.specs.Statement.{enclosingAt}
 use Rattle.path.specs.Path.{oneOf}
 use Rattle.roots.specs.Reach.{hasOneOrTwo}
-use Rattle.rust.specs.Rust.{Run, stops, gives, _>>=_, slice, textOf, push}
+use Rattle.rust.specs.Rust.{Call, stops, gives, _>>=_, slice, textOf, push}
 
 -- ---- the types
 
@@ -75,7 +75,7 @@ abbrev pub endsWith : List ℕ → ℕ → Range → Bool
 endsWith source mark s = ltb (s .start) (s .end) && eqb (byteAt source (s .end - 1)) mark
 
 -- fn unquote(s): `&s[1..s.len() - 1]` stops where s has one byte
-unfoldable pub unquote : List ℕ → Range → Run Range
+unfoldable pub unquote : List ℕ → Range → Call Range
 unquote source s =
     cond ((startsWith source 96 s && endsWith source 96 s) || (startsWith source 34 s && endsWith source 34 s))
     (slice source (s .start + 1) (s .end - 1)) (gives s)
@@ -89,15 +89,15 @@ abbrev pub bindingOf : Rec → Rec → Range → Binding
 bindingOf tree t name = record { name = name; range = span t; «definition_range» = span tree }
 
 -- fn extract_cte(tree, source): returns at the first name
-unfoldable pub «extract_cte» : Rec → Forest → List ℕ → Run (Option Binding)
+unfoldable pub «extract_cte» : Rec → Forest → List ℕ → Call (Option Binding)
 «extract_cte» tree nil source = gives none
 «extract_cte» tree (token t rest) source =
-    let on : Run (Option Binding) = «extract_cte» tree rest source in
-    let bare : Run (Option Binding) = do
+    let on : Call (Option Binding) = «extract_cte» tree rest source in
+    let bare : Call (Option Binding) = do
       s ← textOf source t
       cond (saysAs source s) on (gives (some (bindingOf tree t s)))
     in
-    let quoted : Run (Option Binding) = do
+    let quoted : Call (Option Binding) = do
       s ← textOf source t
       name ← unquote source s
       gives (some (bindingOf tree t name))
@@ -111,15 +111,15 @@ pushIfCte scope none = scope
 pushIfCte scope (some b) = pushCte scope b
 
 -- fn collect_ctes(tree, source, scope)
-unfoldable pub «collect_ctes» : Forest → List ℕ → QueryScope → Run QueryScope
+unfoldable pub «collect_ctes» : Forest → List ℕ → QueryScope → Call QueryScope
 «collect_ctes» nil source scope = gives scope
 «collect_ctes» (token t rest) source scope = «collect_ctes» rest source scope
 «collect_ctes» (node subtree children rest) source scope =
-    let item : Run QueryScope = do
+    let item : Call QueryScope = do
       b ← «extract_cte» subtree children source
       gives (pushIfCte scope b)
     in
-    let list : Run QueryScope = «collect_ctes» children source scope in
+    let list : Call QueryScope = «collect_ctes» children source scope in
     do
       s ← cond (eqb (subtree .kind) withExpressionItem) item (cond (eqb (subtree .kind) columnList) list (gives scope))
       «collect_ctes» rest source s
@@ -132,15 +132,15 @@ pub record Ident : Type 0 where
   pub token : Rec
 
 -- fn extract_alias_name(tree, source): `last_ident` is carried along
-unfoldable pub «extract_alias_name» : Forest → List ℕ → Option Ident → Run (Option Ident)
+unfoldable pub «extract_alias_name» : Forest → List ℕ → Option Ident → Call (Option Ident)
 «extract_alias_name» nil source «last_ident» = gives «last_ident»
 «extract_alias_name» (token t rest) source «last_ident» =
-    let on : Run (Option Ident) = «extract_alias_name» rest source «last_ident» in
-    let bare : Run (Option Ident) = do
+    let on : Call (Option Ident) = «extract_alias_name» rest source «last_ident» in
+    let bare : Call (Option Ident) = do
       s ← textOf source t
       «extract_alias_name» rest source (cond (saysAs source s) «last_ident» (some (record { name = s; token = t })))
     in
-    let quoted : Run (Option Ident) = do
+    let quoted : Call (Option Ident) = do
       s ← textOf source t
       name ← unquote source s
       «extract_alias_name» rest source (some (record { name = name; token = t }))
@@ -149,11 +149,11 @@ unfoldable pub «extract_alias_name» : Forest → List ℕ → Option Ident →
 «extract_alias_name» (node subtree children rest) source «last_ident» = «extract_alias_name» rest source «last_ident»
 
 -- the loop of `extract_table_identifier`, which gathers `parts`
-unfoldable pub parts : Forest → List ℕ → List Range → Run (List Range)
+unfoldable pub parts : Forest → List ℕ → List Range → Call (List Range)
 parts nil source gathered = gives gathered
 parts (token t rest) source gathered =
-    let on : Run (List Range) = parts rest source gathered in
-    let part : Run (List Range) = do
+    let on : Call (List Range) = parts rest source gathered in
+    let part : Call (List Range) = do
       s ← textOf source t
       parts rest source (push gathered s)
     in
@@ -168,7 +168,7 @@ byParts tree (database ∷ table ∷ []) = some (record { database = some databa
 byParts tree (first ∷ second ∷ third ∷ more) = none
 
 -- fn extract_table_identifier(tree, source)
-unfoldable pub «extract_table_identifier» : Rec → Forest → List ℕ → Run (Option Reference)
+unfoldable pub «extract_table_identifier» : Rec → Forest → List ℕ → Call (Option Reference)
 «extract_table_identifier» tree children source = do
   gathered ← parts children source []
   gives (byParts tree gathered)
@@ -179,7 +179,7 @@ flush none scope = scope
 flush (some tref) scope = pushTableRef scope tref
 
 -- `if let Some(ref mut tref) = last_table_ref`: only then is the alias's name extracted
-unfoldable pub nameIfPending : Option Reference → Forest → List ℕ → Run (Option Ident)
+unfoldable pub nameIfPending : Option Reference → Forest → List ℕ → Call (Option Ident)
 nameIfPending none children source = gives none
 nameIfPending (some tref) children source = «extract_alias_name» children source none
 
@@ -195,27 +195,27 @@ pushAlias (some tref) none subtree scope = scope
 pushAlias (some tref) (some i) subtree scope = pushTableAlias scope (bindingOf subtree (i .token) (i .name))
 
 -- fn collect_table_refs(tree, source, scope): `last_table_ref` is carried along, and flushed at the end
-unfoldable pub «collect_table_refs» : Option Reference → Forest → List ℕ → QueryScope → Run QueryScope
+unfoldable pub «collect_table_refs» : Option Reference → Forest → List ℕ → QueryScope → Call QueryScope
 «collect_table_refs» «last_table_ref» nil source scope = gives (flush «last_table_ref» scope)
 «collect_table_refs» «last_table_ref» (token t rest) source scope = «collect_table_refs» «last_table_ref» rest source scope
 «collect_table_refs» «last_table_ref» (node subtree children rest) source scope =
-    let onIdentifier : Run QueryScope = do
+    let onIdentifier : Call QueryScope = do
       tref ← «extract_table_identifier» subtree children source
       «collect_table_refs» tref rest source (flush «last_table_ref» scope)
     in
-    let onAlias : Run QueryScope = do
+    let onAlias : Call QueryScope = do
       alias ← nameIfPending «last_table_ref» children source
       «collect_table_refs» (setAlias «last_table_ref» alias) rest source (pushAlias «last_table_ref» alias subtree scope)
     in
-    let onExpression : Run QueryScope = do
+    let onExpression : Call QueryScope = do
       s ← «collect_table_refs» none children source scope
       «collect_table_refs» «last_table_ref» rest source s
     in
-    let onJoin : Run QueryScope = do
+    let onJoin : Call QueryScope = do
       s ← «collect_table_refs» none children source (flush «last_table_ref» scope)
       «collect_table_refs» none rest source s
     in
-    let onOther : Run QueryScope = «collect_table_refs» «last_table_ref» rest source scope in
+    let onOther : Call QueryScope = «collect_table_refs» «last_table_ref» rest source scope in
     cond (eqb (subtree .kind) tableIdentifier) onIdentifier
     (cond (eqb (subtree .kind) tableAlias) onAlias
     (cond (eqb (subtree .kind) tableExpression) onExpression
@@ -230,15 +230,15 @@ pushIfAlias scope subtree none = scope
 pushIfAlias scope subtree (some i) = pushColumnAlias scope (bindingOf subtree (i .token) (i .name))
 
 -- fn collect_column_aliases(tree, source, scope)
-unfoldable pub «collect_column_aliases» : Forest → List ℕ → QueryScope → Run QueryScope
+unfoldable pub «collect_column_aliases» : Forest → List ℕ → QueryScope → Call QueryScope
 «collect_column_aliases» nil source scope = gives scope
 «collect_column_aliases» (token t rest) source scope = «collect_column_aliases» rest source scope
 «collect_column_aliases» (node subtree children rest) source scope =
-    let alias : Run QueryScope = do
+    let alias : Call QueryScope = do
       i ← «extract_alias_name» children source none
       gives (pushIfAlias scope subtree i)
     in
-    let list : Run QueryScope = «collect_column_aliases» children source scope in
+    let list : Call QueryScope = «collect_column_aliases» children source scope in
     do
       s ← cond (eqb (subtree .kind) columnAlias) alias
           (cond (eqb (subtree .kind) columnList || eqb (subtree .kind) expressionList) list (gives scope))
@@ -247,13 +247,13 @@ unfoldable pub «collect_column_aliases» : Forest → List ℕ → QueryScope �
 -- ---- the scope
 
 -- the body of `collect_scope` for a tree of this kind, where `loop` is its loop over the children: a WITH returns before it
-unfoldable pub body : ℕ → Forest → List ℕ → (QueryScope → Run QueryScope) → QueryScope → Run QueryScope
+unfoldable pub body : ℕ → Forest → List ℕ → (QueryScope → Call QueryScope) → QueryScope → Call QueryScope
 body kind children source loop scope =
-    let tables : Run QueryScope = do
+    let tables : Call QueryScope = do
       s ← «collect_table_refs» none children source scope
       loop s
     in
-    let columns : Run QueryScope = do
+    let columns : Call QueryScope = do
       s ← «collect_column_aliases» children source scope
       loop s
     in
@@ -263,21 +263,21 @@ body kind children source loop scope =
     (loop scope)))
 
 -- that loop: `continue` at a subquery, else `collect_scope` of the child
-unfoldable pub eachChild : Forest → List ℕ → QueryScope → Run QueryScope
+unfoldable pub eachChild : Forest → List ℕ → QueryScope → Call QueryScope
 eachChild nil source scope = gives scope
 eachChild (token t rest) source scope = eachChild rest source scope
 eachChild (node subtree children rest) source scope =
-    let collected : Run QueryScope = body (subtree .kind) children source (λ s. eachChild children source s) scope in
+    let collected : Call QueryScope = body (subtree .kind) children source (λ s. eachChild children source s) scope in
     do
       s ← cond (eqb (subtree .kind) subqueryExpression) (gives scope) collected
       eachChild rest source s
 
 -- fn collect_scope(tree, source, scope)
-unfoldable pub «collect_scope» : Rec → Forest → List ℕ → QueryScope → Run QueryScope
+unfoldable pub «collect_scope» : Rec → Forest → List ℕ → QueryScope → Call QueryScope
 «collect_scope» tree children source scope = body (tree .kind) children source (λ s. eachChild children source s) scope
 
 -- fn build_scope(tree, source)
-unfoldable pub «build_scope» : Rec → Forest → List ℕ → Run QueryScope
+unfoldable pub «build_scope» : Rec → Forest → List ℕ → Call QueryScope
 «build_scope» tree children source =
     «collect_scope» tree children source (record { ctes = []; «table_aliases» = []; «column_aliases» = []; «table_refs» = [] })
 
@@ -417,7 +417,7 @@ found none = Outside
 found (some r) = Record (r .index)
 
 -- what `build_scope` gives of the node that is record i
-abbrev pub scopeAt : List ℕ → List ℕ → ℕ → Run QueryScope
+abbrev pub scopeAt : List ℕ → List ℕ → ℕ → Call QueryScope
 scopeAt source t i = «build_scope» (recordAt t 0 i) (inside t i) source
 
 -- four lists are document 01's of the root i

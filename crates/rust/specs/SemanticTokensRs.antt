@@ -16,7 +16,7 @@ use Rattle.scope.specs.declared.semantic_tokens.ClassedToken.{ClassedToken}
 use Rattle.keywords.specs.Keywords.{keywords, elem}
 use Rattle.scope.specs.Classes.{classesOf}
 use Rattle.path.specs.Path.{oneOf}
-use Rattle.rust.specs.Rust.{Run, gives, _>>=_, slice, push}
+use Rattle.rust.specs.Rust.{Call, gives, _>>=_, slice, push}
 
 -- ---- the constants, and document 01's numbers
 
@@ -97,13 +97,13 @@ operators =
     plus ∷ 144 ∷ 145 ∷ 146 ∷ 147 ∷ 148 ∷ 149 ∷ 150 ∷ 151 ∷ 152 ∷ 153 ∷ 154 ∷ 155 ∷ 156 ∷ arrow ∷ []
 
 -- its arm of a BareWord, which reads the text
-unfoldable pub wordArm : ℕ → ℕ → List ℕ → ℕ → Run (Option ℕ)
+unfoldable pub wordArm : ℕ → ℕ → List ℕ → ℕ → Call (Option ℕ)
 wordArm start end source parent = do
   s ← slice source start end
   gives («classify_bareword» (text source (s .start) (s .end)) parent)
 
 -- fn classify_token(kind, start, end, source, parent)
-unfoldable pub «classify_token» : ℕ → ℕ → ℕ → List ℕ → ℕ → Run (Option ℕ)
+unfoldable pub «classify_token» : ℕ → ℕ → ℕ → List ℕ → ℕ → Call (Option ℕ)
 «classify_token» kind start end source parent =
     cond (eqb kind comment) (gives (some «TT_COMMENT»))
     (cond (eqb kind number) (gives (some «TT_NUMBER»))
@@ -119,7 +119,7 @@ pushClass out t none = out
 pushClass out t (some tt) = push out (record { start = t .start; end = t .end; class = tt })
 
 -- fn collect_tokens(tree, source, out), of a tree of this kind
-unfoldable pub «collect_tokens» : ℕ → Forest → List ℕ → List ClassedToken → Run (List ClassedToken)
+unfoldable pub «collect_tokens» : ℕ → Forest → List ℕ → List ClassedToken → Call (List ClassedToken)
 «collect_tokens» kind nil source out = gives out
 «collect_tokens» kind (token t rest) source out = do
   class ← «classify_token» (t .kind) (t .start) (t .end) source kind
@@ -140,7 +140,7 @@ sortByStart [] = []
 sortByStart (x ∷ xs) = insert x (sortByStart xs)
 
 -- fn compute(tree, source, ..), its raw_tokens after the sort
-unfoldable pub compute : ℕ → Forest → List ℕ → Run (List ClassedToken)
+unfoldable pub compute : ℕ → Forest → List ℕ → Call (List ClassedToken)
 compute kind children source = do
   out ← «collect_tokens» kind children source []
   gives (sortByStart out)
