@@ -4,7 +4,8 @@
 --     fill-sets, written-whole      all of them where they have room
 --     list-refused, list-admitted   a question that its own rules refuse; one that they admit
 --     sized-filled, sized-short     all entries are written; they are counted, and have no room
---     sized-written, sized-denied   the same where they are counted on an empty part of the buffer itself
+--     sized-written, sized-none,    the same where they are counted on an empty part of the buffer itself
+--     sized-denied
 --     list-filled, list-short       the same where every entry that there can be is of one width
 --     written-map, written-rows, listed-map, ..   entries that are rows of numbers already
 -- Assumes nothing.
@@ -147,6 +148,14 @@ module _ {E : Type 0} (row : E → List ℕ) where
             let q : l ++ out ≡ out = front-none l out z in
             let same : m′ ≡ m = omega (arith, c .next, c′ .next) in
             rw same at (sized-filled (rw q at c′) (omega (arith, ap length q)))
+
+        -- or there is nothing to write
+        pub sized-none : m ≡ 0 → (Entries (m / w) ≡ listed rs row es out) × (l ++ out ≡ lent rs row es out)
+        unfolding listed lent reply buffer
+        sized-none h =
+            let b : length (listBytes row es) ≡ 0 = omega (arith, c .next) in
+            let v = listed-room rs es out ok (omega arith) in
+            (rw (← v, entries-of m (omega (arith, c .next))), rw (← v, b) (front-none l out z ∙ sym (front-none (listBytes row es) out b)))
 
         pub sized-denied : length (l ++ out) < m → (Denied 7 (m / w) ≡ listed rs row es out) × (l ++ out ≡ lent rs row es out)
         sized-denied h = let q : l ++ out ≡ out = front-none l out z in rw q (sized-short (omega (arith, c .next)) (omega (arith, ap length q)))

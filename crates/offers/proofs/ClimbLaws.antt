@@ -1,7 +1,7 @@
 -- The loop that climbs to the roots around a root and writes what is seen of each.
 --     Climbing, climb-start, -query, -other, -none, -last    the roots around
 --     own-written, offered-alone, offered-around                    with the root's own before them
---     offered-written, offered-denied                               the list
+--     offered-written, offered-none, offered-denied                 the list
 -- Assumes nothing.
 use Prim.Native.Nat.{ℕ, _+_, _-_, _*_, _/_, _≤_, _<_}
 use mathlib.Core.Path.{_≡_, refl, sym, ap, _∙_}
@@ -16,7 +16,7 @@ use Rattle.table.specs.Table.{count, kindAt, parentAt, part}
 use Rattle.forest.specs.Forest.{stretchEnd}
 use Rattle.lent.specs.declared.list.Listed.the-variants.{Entries, Refused as Denied}
 use Rattle.lent.specs.Lists.{listBytes, Written, Answers}
-use Rattle.lent.proofs.Writes.{written-none, written-then, written-rows, length-wide, sized-written, sized-denied}
+use Rattle.lent.proofs.Writes.{written-none, written-then, written-rows, length-wide, sized-written, sized-none, sized-denied}
 use Rattle.names.specs.declared.names.NameBinding.{NameBinding}
 use Rattle.names.specs.Bindings.{bindingRow, bindingBytes}
 use Rattle.tables.specs.inner.Rows.{asRow}
@@ -150,6 +150,9 @@ module _ (src t : List ℕ) (n : ℕ) where
     pub offered-written : {out′ : List ℕ} {m′ : ℕ} → Written bindingRow (offeredIn src t n) (l ++ out) 0 out′ m′ → m ≤ length (l ++ out)
         → Answers [] bindingRow (offeredIn src t n) out (Entries (m / bindingBytes)) out′
     offered-written v h = sized-written bindingRow bindingBytes (offeredIn src t n) wide (omega arith) [] out refl c z v h
+
+    pub offered-none : m ≡ 0 → Answers [] bindingRow (offeredIn src t n) out (Entries (m / bindingBytes)) (l ++ out)
+    offered-none h = sized-none bindingRow bindingBytes (offeredIn src t n) wide (omega arith) [] out refl c z h
 
     pub offered-denied : length (l ++ out) < m → Answers [] bindingRow (offeredIn src t n) out (Denied 7 (m / bindingBytes)) (l ++ out)
     offered-denied h = sized-denied bindingRow bindingBytes (offeredIn src t n) wide (omega arith) [] out refl c z h

@@ -90,14 +90,17 @@ fn collect_offered(table: &[u8], n: usize, source: &[u8], out: &mut [u8], at: us
     collect_around(table, n, source, out, next)
 }
 
-// Lists the WITH names that are offered at the root n of a table that is admitted: counted on an empty part of the buffer, and written if it has
-// room.
+// Lists the WITH names that are offered at the root n of a table that is admitted: counted on an empty part of the buffer, and written if there is
+// something to write and it has room.
 fn list_offered(table: &[u8], n: usize, source: &[u8], out: &mut [u8]) -> Listed
     requires { ⌜ ((n < count (now table)) × (count (now table) ≤ mostRecords) × (depthAt (now table) n ≤ mostDepth)) × Climbs (now table) ⌝ }
     ensures { λ r. ⌜ Answers [] bindingRow (offeredIn (now (source .entry)) (now (table .entry)) n) (now (out .entry)) r (now (out .exit)) ⌝ }
 {
     let size = collect_offered(table, n, source, &mut out[..0], 0);
     let entries = (size / BINDING_BYTES) as u32;
+    if size == 0 {
+        return Listed::Entries(entries);
+    }
     if size <= out.len() {
         collect_offered(table, n, source, out, 0);
         return Listed::Entries(entries);

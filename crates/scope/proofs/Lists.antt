@@ -19,7 +19,7 @@ use Rattle.lent.specs.Verdicts.{Rule, first}
 use Rattle.lent.specs.Numbers.{numberBytes}
 use Rattle.lent.specs.Lists.{listBytes, listed, lent, Written}
 use Rattle.table.proofs.Checks.{root-known}
-use Rattle.lent.proofs.Writes.{length-wide, bytes-map, listed-map, lent-map, sized-written, sized-denied}
+use Rattle.lent.proofs.Writes.{length-wide, bytes-map, listed-map, lent-map, sized-written, sized-none, sized-denied}
 use Rattle.names.specs.declared.names.Bound.{Bound}
 use Rattle.names.specs.declared.names.Bound.the-variants.{Unnamed, Named}
 use Rattle.tables.specs.declared.pending.Pending.{Pending}
@@ -163,6 +163,9 @@ module _ (asked : Asked) (src t : List ℕ) (i : ℕ) (rs : List Rule) (out : Li
       → (Entries n ≡ listed rs asRow (rowsAt asked src t i) out) × (out′ ≡ lent rs asRow (rowsAt asked src t i) out)
   rows-written c′ h =
       rw d (sized-written asRow (width asked) (rowsAt asked src t i) (wide-at asked src t i) (wide-some asked) rs out ok (rw q at c) z (rw q at c′) h)
+
+  pub rows-none : m ≡ 0 → (Entries n ≡ listed rs asRow (rowsAt asked src t i) out) × (l ++ out ≡ lent rs asRow (rowsAt asked src t i) out)
+  rows-none h = rw d (sized-none asRow (width asked) (rowsAt asked src t i) (wide-at asked src t i) (wide-some asked) rs out ok (rw q at c) z h)
 
   pub rows-denied : length (l ++ out) < m
       → (Denied 7 n ≡ listed rs asRow (rowsAt asked src t i) out) × (l ++ out ≡ lent rs asRow (rowsAt asked src t i) out)

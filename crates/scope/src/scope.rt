@@ -33,7 +33,7 @@ fn entries_of(asked: Asked, size: usize) -> usize
     }
 }
 
-// One list of a root of a table that is admitted: counted on an empty part of the buffer, and written if it has room.
+// One list of a root of a table that is admitted: counted on an empty part of the buffer, and written if there is something to write and it has room.
 pub fn list_in(asked: Asked, table: &[u8], source: &[u8], root: usize, out: &mut [u8]) -> Listed
     requires { ⌜ (root < count (now table)) × (count (now table) ≤ mostRecords) ⌝ }
     ensures { λ r. ⌜ Answers [] asRow
@@ -42,6 +42,9 @@ pub fn list_in(asked: Asked, table: &[u8], source: &[u8], root: usize, out: &mut
     let s = stretch_of(table, root);
     let size = collect_scope(asked, s, root, source, &mut out[..0], 0);
     let entries = entries_of(asked, size) as u32;
+    if size == 0 {
+        return Listed::Entries(entries);
+    }
     if size <= out.len() {
         collect_scope(asked, s, root, source, out, 0);
         return Listed::Entries(entries);

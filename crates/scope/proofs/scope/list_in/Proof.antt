@@ -1,4 +1,4 @@
-use Rattle.scope.proofs.Lists.{rows-written, rows-denied}
+use Rattle.scope.proofs.Lists.{rows-written, rows-none, rows-denied}
 use mathlib.Core.Path.{refl}
 use native.Mathlib.Omega.{arith}
 use borrow.Author.Needs.{needs}
@@ -15,8 +15,10 @@ list-in-spec =
     (λ c κs. omega arith)  -- collect-scope-requires
     (λ c κs. search needs)  -- entries-of-requires
     (λ c. omega arith)  -- cast-entries
+    (λ c. search needs)  -- same-length
+    (λ c. rows-none _ _ _ _ _ _ (c .before .before .before .before .before .before .stretch-of .ensures .0) refl (c .before .before .before .before .collect-scope .ensures .0) (c .before .before .before .before .collect-scope .kept .1 .1 .1 .1 .0) (c .before .entries-of .ensures .0) (c .if1 .taken))  -- returns
     (λ c κs. omega arith)  -- collect-scope-requires-2
     (λ c. search needs)  -- same-length
-    (λ c. rows-written _ _ _ _ _ _ (c .before .before .before .before .before .before .before .before .before .before .stretch-of .ensures .0) refl (c .before .before .before .before .before .before .before .before .collect-scope .ensures .0) (c .before .before .before .before .before .before .before .before .collect-scope .kept .1 .1 .1 .1 .0) (c .before .before .before .before .before .entries-of .ensures .0) (c .before .before .collect-scope2 .ensures .0) (c .before .before .before .before .if1 .taken))  -- returns
+    (λ c. rows-written _ _ _ _ _ _ (c .before .before .before .before .before .before .before .before .before .before .before .stretch-of .ensures .0) refl (c .before .before .before .before .before .before .before .before .before .collect-scope .ensures .0) (c .before .before .before .before .before .before .before .before .before .collect-scope .kept .1 .1 .1 .1 .0) (c .before .before .before .before .before .before .entries-of .ensures .0) (c .before .before .collect-scope2 .ensures .0) (c .before .before .before .before .if2 .taken))  -- returns-2
     (λ c. search needs)  -- same-length-2
-    (λ c. rows-denied _ _ _ _ _ _ (c .before .before .before .before .before .before .stretch-of .ensures .0) refl (c .before .before .before .before .collect-scope .ensures .0) (c .before .before .before .before .collect-scope .kept .1 .1 .1 .1 .0) (c .before .entries-of .ensures .0) (c .if1 .left)))  -- returns-2
+    (λ c. rows-denied _ _ _ _ _ _ (c .before .before .before .before .before .before .before .stretch-of .ensures .0) refl (c .before .before .before .before .before .collect-scope .ensures .0) (c .before .before .before .before .before .collect-scope .kept .1 .1 .1 .1 .0) (c .before .before .entries-of .ensures .0) (c .if2 .left)))  -- returns-3
