@@ -4,7 +4,7 @@
 --     given-apart      so any two contexts that are given on admitted tables are the same if their numbers and values are
 -- Assumes nothing.
 use Prim.Native.Nat.{ℕ, zero, suc, _+_, _-_, _≤_, _<_}
-use mathlib.Core.Path.{_≡_, refl, sym}
+use mathlib.Core.Path.{_≡_}
 use mathlib.Core.Bool.{Bool, true, false, cond, _&&_, _||_}
 use mathlib.Core.List.{List, [], _∷_}
 use mathlib.Core.Option.{Option, none, some}
@@ -30,10 +30,10 @@ use Rattle.contexts.specs.declared.context.Answer.the-variants.{GoOn, Given}
 use Rattle.contexts.specs.declared.trailing.Clause.{Clause}
 use Rattle.contexts.specs.declared.trailing.Clause.the-variants.{NoClause, Ends}
 use Rattle.path.specs.Path.{pathAt, oneOf, deepest, onPath, trails}
-use Rattle.tokens.specs.LastToken.{named, lastTwo, dotted, isJoinWord}
-use Rattle.tokens.specs.Function.{bareWordIn, orName, functionName, arguments}
-use Rattle.contexts.specs.Trailing.{lastClause, pastClause, pastEnd, trailingIn, trailingRule}
-use Rattle.contexts.specs.PathRules.{NodeRule, Seen, tableReference, joined, functionArgument, columnOr, column, pathRules, ruled, elseAsk, seen, byPath, pathRule}
+use Rattle.tokens.specs.LastToken.{named, lastTwo, isJoinWord}
+use Rattle.tokens.specs.Function.{bareWordIn, orName, functionName}
+use Rattle.contexts.specs.Trailing.{pastClause, pastEnd, trailingIn}
+use Rattle.contexts.specs.PathRules.{NodeRule, Seen, tableReference, joined, functionArgument, columnOr, column, pathRules, ruled, elseAsk, seen, byPath}
 use Rattle.cursor.specs.CursorContext.{startsAfter, lastRule, givenOr, contextAt}
 use Rattle.contexts.specs.Context.{coded, Starts, Ranged}
 use Rattle.contexts.proofs.Coded.{tells-apart}

@@ -1,8 +1,7 @@
 -- The rules in their order, and the reply.
 -- Assumes nothing.
 use Prim.Native.Nat.{ℕ, _*_, _<_}
-use mathlib.Core.Path.{_≡_, refl, sym, ap, _∙_}
-use mathlib.Core.Bool.{Bool}
+use mathlib.Core.Path.{_≡_, refl, _∙_}
 use mathlib.Core.List.{List}
 use native.Mathlib.Omega.{arith}
 use borrow.Author.Tests.{eq-eqb, ne-eqb}
@@ -10,14 +9,11 @@ use lib.ListN.{drop}
 use Rattle.lent.specs.declared.verdict.Verdict.{Verdict}
 use Rattle.lent.specs.declared.verdict.Verdict.the-variants.{Admitted, Refused}
 use Rattle.table.specs.Table.{recordBytes, count, kindAt, records}
-use Rattle.forest.specs.Forest.{kids, inside}
-use Rattle.table.specs.Rules.{verdict}
-use Rattle.forest.proofs.Sense.{admitted-tidy}
+use Rattle.forest.specs.Forest.{kids}
 use Rattle.path.specs.declared.gathered.Gathered.{Gathered}
 use Rattle.contexts.specs.declared.context.CursorContext.{CursorContext}
 use Rattle.contexts.specs.declared.context.Answer.{Answer}
 use Rattle.contexts.specs.declared.context.Answer.the-variants.{GoOn, Given}
-use Rattle.contexts.specs.declared.context.ContextReply.{ContextReply}
 use Rattle.contexts.specs.declared.context.ContextReply.the-variants.{Context, Refused as Denied}
 use Rattle.cursor.specs.CursorContext.{lastRule, givenOr, contextReply}
 use Rattle.contexts.specs.inner.ByNumber.{trailingFrom, givenBy}

@@ -4,19 +4,17 @@
 -- Assumes nothing.
 use Prim.Native.Nat.{ℕ, zero, suc, _+_, _-_, _≤_, _<_}
 use mathlib.Core.Path.{_≡_, refl, sym, ap, _∙_}
-use mathlib.Core.Bool.{Bool, true, false, cond}
-use mathlib.Core.List.{List, [], _∷_}
+use mathlib.Core.List.{List, _∷_}
 use mathlib.Core.Logic.{⊎-elim}
 use native.Mathlib.Omega.{arith}
 use native.Mathlib.Numerals.{add-one}
 use borrow.Author.Tests.{lt-ltb, le-ltb, eq-eqb, ne-eqb}
-use lib.Dec.{ltb, eqb}
 use lib.ListN.{length}
 use Rattle.lent.specs.declared.verdict.Verdict.{Verdict}
 use Rattle.lent.specs.declared.verdict.Verdict.the-variants.{Admitted}
 use Rattle.table.specs.Table.{count, depthAt, parentAt}
 use Rattle.forest.specs.Forest.{stretchEnd}
-use Rattle.table.specs.Rules.{nearest, parentOf, verdict}
+use Rattle.table.specs.Rules.{nearest, verdict}
 use Rattle.forest.specs.Sense.{Tidy}
 use Rattle.forest.specs.Above.{aboveAmong, above}
 use Rattle.forest.specs.inner.Climbing.{Climbs}

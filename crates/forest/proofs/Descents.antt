@@ -11,18 +11,16 @@
 use mathlib.Core.Path.{_≡_, refl, sym, ap, _∙_}
 use mathlib.Core.Logic.{⊎-elim}
 use mathlib.Core.Bool.{Bool, true, false, cond, _&&_}
-use mathlib.Core.List.{List, [], _∷_}
+use mathlib.Core.List.{List, _∷_}
 use Prim.Native.Nat.{ℕ, _+_, _*_, _≤_, _<_}
 use native.Mathlib.Omega.{arith}
-use borrow.Author.Tests.{lt-ltb, le-ltb, le-leb, lt-leb}
-use lib.Dec.{ltb}
+use borrow.Author.Tests.{le-leb, lt-leb}
 use lib.ListN.{drop}
 use Rattle.table.specs.declared.record.Rec.{Rec}
 use Rattle.table.specs.Kinds.{isNode, lastNode}
 use Rattle.table.specs.Table.{recordBytes, count, kindAt, recordAt, records, part}
 use Rattle.forest.specs.Forest.{Forest, nil, node, kids, stretchEnd, Child}
 use Rattle.forest.specs.Descent.{path, innermost, pathOf, innermostOf, along}
-use Rattle.lent.proofs.Cases.{lt-or-le}
 use Rattle.forest.proofs.Laws.{node-or-token, from-end, from-cons, kids-tail}
 use Rattle.forest.proofs.Walks.{Walk, walk-from, walk-end, walk-token, walk-over, walk-into}
 

@@ -2,18 +2,16 @@
 -- Assumes nothing.
 use mathlib.Core.Path.{_≡_, refl, sym, ap, _∙_}
 use mathlib.Core.Logic.{_⊎_, inl, inr, ⊎-elim}
-use mathlib.Core.Bool.{Bool, true, false}
 use mathlib.Core.List.{List, [], _∷_}
 use Prim.Native.Nat.{ℕ, zero, suc, _+_, _-_, _*_, _≤_, _<_}
 use native.Mathlib.Nat.{sub-eq-zero-of-le, add-zero, sub-zero, zero-sub, zero-add, add-assoc, le-of-lt}
 use native.Mathlib.Omega.{arith}
-use borrow.Author.Tests.{lt-ltb, le-ltb, le-leb, lt-leb, ltb-true, ltb-false, eqb-true, eqb-false}
-use lib.Dec.{ltb, eqb}
+use borrow.Author.Tests.{lt-ltb, le-ltb, le-leb, lt-leb}
 use lib.ListN.{getD, take, drop, length-take, length-drop}
 use lib.Seq.{getD-take, getD-drop}
 use Rattle.lent.proofs.Cases.{lt-or-le}
 use Rattle.table.specs.declared.record.Rec.{Rec}
-use Rattle.table.specs.Kinds.{isNode, lastNode}
+use Rattle.table.specs.Kinds.{lastNode}
 use Rattle.table.specs.Table.{recordBytes, count, kindAt, depthAt, recordAt, run, from, records, part}
 use Rattle.lent.specs.Numbers.{word}
 use Rattle.forest.specs.Forest.{nil, token, node, level, kids, extent, siblings, stretchEnd, children, Child}

@@ -6,23 +6,22 @@
 -- Assumes nothing.
 use Prim.Native.Nat.{ℕ, zero, suc, _+_, _-_, _*_, _%_, _≤_, _<_}
 use mathlib.Core.Path.{_≡_, refl, sym, ap, _∙_}
-use mathlib.Core.Bool.{Bool, true, false, cond, _&&_, _||_}
+use mathlib.Core.Bool.{Bool, true, false, cond}
 use mathlib.Core.List.{List, [], _∷_, _++_, append-nil}
 use mathlib.Core.Logic.{_⊎_, inl, inr, ⊎-elim}
 use native.Mathlib.Omega.{arith}
 use native.Mathlib.Numerals.{add-one}
-use native.Mathlib.Nat.{zero-add, add-zero}
-use borrow.Author.Tests.{eq-eqb, ne-eqb, eqb-true, ltb-false}
+use native.Mathlib.Nat.{zero-add}
+use borrow.Author.Tests.{eq-eqb, ne-eqb, eqb-true}
 use lib.ListN.{length, take, drop}
-use lib.Seq.{take-length}
-use lib.Dec.{eqb, ltb}
+use lib.Dec.{eqb}
 use Rattle.table.specs.declared.record.Rec.{Rec}
 use Rattle.lent.specs.declared.verdict.Verdict.{Verdict}
 use Rattle.lent.specs.declared.verdict.Verdict.the-variants.{Admitted}
-use Rattle.table.specs.Kinds.{isToken, expression, otherToken, arrow}
+use Rattle.table.specs.Kinds.{isToken, otherToken, arrow}
 use Rattle.table.specs.Table.{recordBytes, count, kindAt, depthAt, startAt, endAt, parentAt, recordAt, run, from, records}
 use Rattle.forest.specs.Forest.{Forest, nil, token, node, level, kids, extent}
-use Rattle.table.specs.Rules.{mostRecords, mostDepth, mostSource, verdict, badLength, nearest, parentOf, badSpan, lastEnd}
+use Rattle.table.specs.Rules.{mostRecords, mostDepth, mostSource, verdict, nearest, parentOf, lastEnd}
 use Rattle.table.specs.Exactly.{Node, Token, Broken, broken-1, broken-2, broken-3, broken-4, broken-5, broken-12, broken-6, MisplacedLater, BadSpan}
 use Rattle.forest.specs.Sense.{Tidy, treeOf, Linked, inOrder, byDepth, asCarried}
 use Rattle.lent.proofs.Cases.{lt-or-le, eq-or-not}

@@ -1,12 +1,11 @@
 -- Loops over a stretch whose answer names no record: it is that of the records however they are numbered.
 -- Assumes nothing.
 use Prim.Native.Nat.{ℕ, _+_, _*_, _≤_, _<_}
-use mathlib.Core.Path.{_≡_, refl, sym, ap, _∙_}
+use mathlib.Core.Path.{_≡_, ap}
 use mathlib.Core.Bool.{Bool, true, false, cond}
 use mathlib.Core.List.{List}
 use native.Mathlib.Nat.{zero-add}
 use lib.ListN.{drop}
-use Rattle.table.specs.declared.record.Rec.{Rec}
 use Rattle.table.specs.Kinds.{lastNode}
 use Rattle.table.specs.Table.{recordBytes, count, kindAt, depthAt, recordAt, records}
 use Rattle.forest.specs.Forest.{Forest, nil, kids, Child, inside}

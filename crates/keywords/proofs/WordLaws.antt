@@ -1,7 +1,7 @@
 -- A text is compared with a word byte by byte where it stands.
-use Prim.Native.Nat.{ℕ, zero, suc, _+_, _-_, _≤_, _<_}
-use mathlib.Core.Path.{_≡_, refl, sym, ap, _∙_}
-use mathlib.Core.Bool.{Bool, true, false, cond, _&&_, _||_}
+use Prim.Native.Nat.{ℕ, _+_, _-_, _≤_, _<_}
+use mathlib.Core.Path.{_≡_, refl, sym, _∙_}
+use mathlib.Core.Bool.{Bool, true, false, cond, _||_}
 use mathlib.Core.List.{List, [], _∷_, map, flatten}
 use native.Mathlib.Omega.{arith}
 use borrow.Author.Tests.{eqb-true, leb-true, le-leb}
@@ -10,7 +10,7 @@ use lib.Dec.{eqb, leb}
 use lib.ListN.{length, getD, take, drop, length-append}
 use lib.Seq.{take-all, take-at, drop-at}
 use Rattle.keywords.specs.Keywords.{elem, isKeyword}
-use Rattle.lent.specs.Text.{upper, upperWord, same, says}
+use Rattle.lent.specs.Text.{upper, upperWord, says}
 use Rattle.lent.proofs.Cases.{both}
 use Rattle.lent.proofs.Texts.{Agree, agree-start, agree-differ, agree-next}
 use Rattle.keywords.specs.inner.KeywordTable.{letter, letters, Folds}

@@ -2,7 +2,7 @@
 use crate::number::NUMBER_BYTES;
 use crate::number::put_number;
 ghost use mathlib.Core.Path.{_≡_};
-ghost use Prim.Native.Nat.{_+_, _*_, _≤_, _<_};
+ghost use Prim.Native.Nat.{_+_, _*_, _<_};
 ghost use lib.ListN.{length};
 ghost use Rattle.lent.specs.Numbers.{numberBytes};
 ghost use Rattle.lent.specs.Lists.{farthest, put};

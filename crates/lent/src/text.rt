@@ -1,6 +1,5 @@
 // The text of a token, and when it is a word.
 ghost use mathlib.Core.Path.{_≡_};
-ghost use lib.ListN.{length};
 ghost use Rattle.lent.specs.Text.{text, upper, same, says};
 
 // The bytes of the source from start up to end, as far as it has them: no span can lead outside it.

@@ -4,7 +4,7 @@
 --     offered-written, offered-none, offered-denied                 the list
 -- Assumes nothing.
 use Prim.Native.Nat.{ℕ, _+_, _-_, _*_, _/_, _≤_, _<_}
-use mathlib.Core.Path.{_≡_, refl, sym, ap, _∙_}
+use mathlib.Core.Path.{_≡_, refl, ap, _∙_}
 use mathlib.Core.Bool.{Bool, true, false, cond}
 use mathlib.Core.List.{List, [], _∷_, _++_, append-assoc, append-nil}
 use native.Mathlib.Omega.{arith}
@@ -25,7 +25,6 @@ use Rattle.collection.specs.Collection.{collectionOf}
 use Rattle.scope.specs.Scope.{withNames}
 use Rattle.collection.specs.inner.Rows.{ownRows}
 use Rattle.scope.proofs.Lists.{with-rows}
-use Rattle.path.specs.Path.{isSubquery}
 use Rattle.statement.specs.Statement.{isStatement}
 use Rattle.forest.specs.Above.{aboveAmong, above}
 use Rattle.forest.specs.inner.Climbing.{Climbs}

@@ -1,7 +1,7 @@
 -- The path's nodes are records of the table.
 --     path-kinds    each has the kind of the record with its number
 -- Assumes nothing.
-use Prim.Native.Nat.{ℕ, zero, suc, _+_, _≤_, _<_}
+use Prim.Native.Nat.{ℕ, zero, suc, _+_}
 use mathlib.Core.Path.{_≡_, sym, ap}
 use mathlib.Core.Bool.{Bool, true, false, cond}
 use mathlib.Core.List.{List, [], _∷_}
@@ -9,7 +9,7 @@ use mathlib.Core.Logic.{⊎-elim}
 use native.Mathlib.Nat.{zero-add}
 use native.Mathlib.Omega.{arith}
 use Rattle.table.specs.declared.record.Rec.{Rec}
-use Rattle.table.specs.Table.{count, kindAt, recordAt, run, from, records}
+use Rattle.table.specs.Table.{kindAt, recordAt, run, from}
 use Rattle.forest.specs.Forest.{level, kids}
 use Rattle.forest.specs.Descent.{path, pathOf}
 use Rattle.table.specs.Ranges.{holds}

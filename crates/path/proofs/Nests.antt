@@ -2,18 +2,18 @@
 --     path-nested    on every table that has a record
 -- Assumes nothing.
 use Prim.Native.Nat.{ℕ, zero, suc, _+_, _-_, _≤_, _<_}
-use mathlib.Core.Path.{_≡_, refl, sym, ap, _∙_}
+use mathlib.Core.Path.{_≡_, refl}
 use mathlib.Core.Bool.{Bool, true, false, cond}
 use mathlib.Core.List.{List, [], _∷_}
 use mathlib.Core.Logic.{⊎-elim}
 use native.Mathlib.Nat.{zero-add}
 use native.Mathlib.Omega.{arith}
 use Rattle.table.specs.declared.record.Rec.{Rec}
-use Rattle.table.specs.Table.{count, depthAt, kindAt, recordAt, run, from, records}
-use Rattle.forest.specs.Forest.{Forest, nil, token, node, level, kids, extent, stretchEnd}
+use Rattle.table.specs.Table.{count, depthAt, kindAt, recordAt, run, from}
+use Rattle.forest.specs.Forest.{level, kids, extent, stretchEnd}
 use Rattle.forest.specs.Descent.{path, pathOf}
 use Rattle.lent.proofs.Cases.{lt-or-le}
-use Rattle.forest.proofs.Laws.{node-or-token, level-shallow, level-deep, level-token, level-node, extent-deep, extent-stop, from-cons}
+use Rattle.forest.proofs.Laws.{node-or-token, level-shallow, level-deep, level-token, level-node, extent-deep, from-cons}
 use Rattle.table.specs.Ranges.{holds}
 use Rattle.path.specs.Path.{pathAt}
 

@@ -4,16 +4,16 @@
 --     starts-level    the descent's first walk, begun there
 -- Assumes nothing.
 use Prim.Native.Nat.{ℕ, _+_, _≤_, _<_}
-use mathlib.Core.Path.{_≡_, refl, sym, ap, _∙_}
-use mathlib.Core.Bool.{Bool, true, false, cond, _&&_}
-use mathlib.Core.List.{List, [], _∷_}
+use mathlib.Core.Path.{_≡_, refl, ap, _∙_}
+use mathlib.Core.Bool.{false, _&&_}
+use mathlib.Core.List.{List}
 use native.Mathlib.Omega.{arith}
 use borrow.Author.Tests.{le-leb}
 use Rattle.table.specs.declared.record.Rec.{Rec}
 use Rattle.table.specs.Kinds.{isNode, lastNode}
 use Rattle.table.specs.Table.{count, kindAt, recordAt, records}
-use Rattle.forest.specs.Forest.{Forest, node, token, kids, children, Child}
-use Rattle.forest.specs.Descent.{path, innermost, along}
+use Rattle.forest.specs.Forest.{Forest, node, kids, Child}
+use Rattle.forest.specs.Descent.{path, along}
 use Rattle.table.specs.Ranges.{holds}
 use Rattle.forest.proofs.Walks.{Walk, walk-start, walk-next}
 use Rattle.forest.proofs.Descents.{onward, Down, Level}

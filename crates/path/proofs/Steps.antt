@@ -1,14 +1,12 @@
 -- What is gathered on the way down names records of the table.
 -- Assumes nothing.
-use Prim.Native.Nat.{ℕ, _+_, _<_, _≤_}
+use Prim.Native.Nat.{ℕ, _<_, _≤_}
 use mathlib.Core.Path.{_≡_, refl, sym}
 use mathlib.Core.Bool.{Bool, true, false, cond}
 use native.Mathlib.Omega.{arith}
 use lib.Dec.{eqb}
-use mathlib.Core.List.{List, [], _∷_}
-use Rattle.table.specs.declared.record.Rec.{Rec}
+use mathlib.Core.List.{List}
 use Rattle.table.specs.Table.{records}
-use Rattle.forest.specs.Descent.{pathOf, along}
 use Rattle.forest.proofs.Descents.{Descent, answer}
 use Rattle.table.specs.Ranges.{holds}
 use Rattle.path.specs.Path.{pathAt, trails}

@@ -14,7 +14,6 @@ use Rattle.lent.specs.declared.list.Listed.the-variants.{Entries, Refused as De
 use Rattle.lent.specs.Verdicts.{Rule, rule, first}
 use Rattle.table.specs.Rules.{rules, rulesFrom, rootRules, numberRules, offsetRules}
 use Rattle.lent.specs.Lists.{roomRule}
-use Rattle.brackets.specs.declared.bracket_matching.Hint.{Hint}
 use Rattle.brackets.specs.declared.bracket_matching.Hint.the-variants.{Opener, NoOpener}
 use Rattle.brackets.specs.declared.bracket_matching.HintReply.{HintReply}
 use Rattle.brackets.specs.declared.bracket_matching.HintReply.the-variants.{Hinted, Refused as Unhinted}

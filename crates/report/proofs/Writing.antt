@@ -13,7 +13,7 @@ use native.Mathlib.Omega.{arith}
 use native.Mathlib.Nat.{pow-suc, add-assoc, suc-mul, zero-add, div-div-eq-div-mul, mod-eq-of-lt}
 use borrow.Author.Tests.{lt-ltb, le-ltb, ltb-true, ltb-false}
 use lib.Dec.{ltb, eqb}
-use lib.ListN.{length, getD, take, drop, set, length-append}
+use lib.ListN.{length, take, drop, length-append}
 use lib.Seq.{sets, length-sets, sets-eq, getD-append-add}
 use Rattle.lent.specs.Numbers.{word, numberBytes, le4}
 use Rattle.lent.specs.Lists.{rowBytes, listBytes}

@@ -2,7 +2,7 @@
 --     Picking, pick-start, -end, -stop, -over, -item, -held, -on    the items of a clause, up to the one that holds the query
 --     Seeing, see-start, -end, -stop, -over, -clause, -on           the clauses of a root; see-alone, a root that is a clause itself
 -- Assumes nothing.
-use Prim.Native.Nat.{ℕ, zero, suc, _+_, _-_, _*_, _≤_, _<_}
+use Prim.Native.Nat.{ℕ, _+_, _-_, _*_, _≤_, _<_}
 use mathlib.Core.Path.{_≡_, refl, sym, ap, _∙_}
 use mathlib.Core.Bool.{Bool, true, false, cond, not, _&&_}
 use mathlib.Core.List.{List, [], _∷_, _++_, append-assoc, append-nil}
@@ -28,7 +28,7 @@ use Rattle.names.specs.declared.names.NameBinding.{NameBinding}
 use Rattle.names.specs.declared.names.Bound.{Bound}
 use Rattle.names.specs.Names.{withItem}
 use Rattle.names.specs.Bindings.{entry, bindingRow}
-use Rattle.collection.specs.Collection.{nodeGives, collected, collection, collectionOf}
+use Rattle.collection.specs.Collection.{nodeGives, collected, collection}
 use Rattle.forest.specs.Above.{standsBelow}
 use Rattle.seen.specs.Seen.{Item, items, itemsBefore, boundBy, ownSeen, seenOf}
 

@@ -4,9 +4,9 @@
 -- Assumes nothing.
 use Prim.Native.Nat.{ℕ, _+_, _*_, _≤_, _<_}
 use mathlib.Core.Path.{_≡_, refl, sym, ap, _∙_}
-use mathlib.Core.Logic.{_⊎_, inl, inr, ⊎-elim}
+use mathlib.Core.Logic.{_⊎_, ⊎-elim}
 use mathlib.Core.Bool.{Bool, true, false, cond, _&&_}
-use mathlib.Core.List.{List, [], _∷_, _++_, append-assoc, List·Memᴰ, List·Memᴰ·head, List·Memᴰ·tail, List·Memᴰ·not-nil, List·Memᴰ·cases-cons, List·Memᴰ·append-cases, Memᴰ·append-left, Memᴰ·append-right}
+use mathlib.Core.List.{List, [], _∷_, _++_, append-assoc, List·Memᴰ, List·Memᴰ·head, List·Memᴰ·not-nil, List·Memᴰ·cases-cons, List·Memᴰ·append-cases, Memᴰ·append-right}
 use native.Mathlib.Omega.{arith}
 use borrow.Author.Tests.{le-leb, lt-leb}
 use lib.ListN.{drop}
@@ -16,17 +16,15 @@ use Rattle.lent.specs.declared.verdict.Verdict.the-variants.{Admitted, Refused}
 use Rattle.table.specs.Kinds.{isNode, lastNode}
 use Rattle.table.specs.Table.{recordBytes, count, kindAt, startAt, endAt, recordAt, from, records}
 use Rattle.forest.specs.Forest.{Forest, nil, token, node, kids, children, Child}
-use Rattle.table.specs.Rules.{verdict}
 use Rattle.forest.specs.Places.{Place, places, nodesOf}
 use Rattle.forest.proofs.Laws.{node-or-token, records-tail}
-use Rattle.forest.proofs.Sense.{admitted-tidy}
 use Rattle.forest.proofs.Walks.{Walk, walk-none, walk-start, walk-end, walk-here, walk-at-node, walk-on}
 use Rattle.statement.specs.declared.statement.Enclosing.{Enclosing}
 use Rattle.statement.specs.declared.statement.Enclosing.the-variants.{Outside, Record}
 use Rattle.statement.specs.declared.statement.StatementReply.{StatementReply}
 use Rattle.statement.specs.declared.statement.StatementReply.the-variants.{Refused as Denied}
 use Rattle.table.specs.Ranges.{spans, holds}
-use Rattle.statement.specs.Statement.{isStatement, itself, orElse, firstFind, enclosingAt, told, statementReply, Hold, Candidate, insideOf, Innermost, FirstInnermost, NoCandidate}
+use Rattle.statement.specs.Statement.{isStatement, itself, orElse, firstFind, enclosingAt, told, statementReply, Hold, Innermost, FirstInnermost, NoCandidate}
 
 -- ---- the loop at record i
 

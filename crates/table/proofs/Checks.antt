@@ -23,8 +23,8 @@ use Rattle.lent.specs.declared.verdict.Verdict.{Verdict}
 use Rattle.lent.specs.declared.verdict.Verdict.the-variants.{Admitted, Refused}
 use Rattle.table.specs.Kinds.{isNode, isToken}
 use Rattle.table.specs.Table.{recordBytes, count, kindAt, depthAt, parentAt, recordAt}
-use Rattle.table.specs.Rules.{mostRecords, mostDepth, badLength, tooLong, unlisted, misplaced, tooDeep, nearest, parentOf, wrongParent, badSpan, lastEnd, noRoot, rulesAt, rulesFrom, rules, verdict, rootVerdict}
-use Rattle.lent.specs.Verdicts.{Rule, rule, first}
+use Rattle.table.specs.Rules.{mostRecords, mostDepth, badLength, tooLong, unlisted, misplaced, tooDeep, nearest, parentOf, wrongParent, badSpan, lastEnd, noRoot, rulesFrom, rules, verdict, rootVerdict}
+use Rattle.lent.specs.Verdicts.{rule, first}
 use Rattle.table.specs.inner.Step.{depths, deepestNext, knownAt, after, strange, outOfPlace, offSource, misfitOf}
 use Rattle.lent.proofs.Cases.{lt-or-le, eq-or-not}
 

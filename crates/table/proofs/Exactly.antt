@@ -7,21 +7,20 @@
 use Prim.Native.Nat.{ℕ, zero, suc, _+_, _*_, _/_, _%_, _≤_, _<_}
 use mathlib.Core.Path.{_≡_, refl, sym, ap, _∙_}
 use mathlib.Core.Bool.{Bool, true, false, cond, not, _&&_, _||_}
-use mathlib.Core.List.{List, [], _∷_, _++_}
+use mathlib.Core.List.{List}
 use mathlib.Core.Logic.{_⊎_, inl, inr, ⊎-elim, _↔_}
 use native.Mathlib.Omega.{arith}
 use native.Mathlib.Numerals.{add-one}
-use native.Mathlib.Nat.{add-zero}
-use borrow.Author.Tests.{lt-ltb, le-ltb, le-leb, lt-leb, eq-eqb, ne-eqb, ltb-true, ltb-false, leb-true, leb-false, eqb-true, eqb-false}
+use borrow.Author.Tests.{lt-ltb, le-ltb, le-leb, eq-eqb, ltb-true, leb-true, eqb-true}
 use lib.ListN.{length}
 use lib.Dec.{ltb, leb, eqb}
 use Rattle.lent.specs.declared.verdict.Verdict.{Verdict}
 use Rattle.lent.specs.declared.verdict.Verdict.the-variants.{Admitted, Refused}
 use Rattle.table.specs.Kinds.{isNode, isToken, expression, otherToken, arrow}
 use Rattle.table.specs.Table.{recordBytes, count, kindAt, depthAt, startAt, endAt, parentAt}
-use Rattle.table.specs.Rules.{mostRecords, mostDepth, mostSource, mostMessage, mostOffsets, offsetBytes, badLength, tooLong, badOffsets, unlisted, misplaced, tooDeep, nearest, wrongParent, badSpan, lastEnd, rulesAt, rulesFrom, rules, verdict}
+use Rattle.table.specs.Rules.{mostRecords, mostDepth, mostSource, mostMessage, mostOffsets, offsetBytes, badLength, tooLong, badOffsets, unlisted, misplaced, tooDeep, nearest, wrongParent, badSpan, lastEnd, rulesFrom, verdict}
 use Rattle.lent.specs.Verdicts.{Rule, first}
-use Rattle.table.specs.Exactly.{Broken, broken-1, broken-2, broken-3, broken-4, broken-5, broken-12, broken-6, rank, place, Least, Node, Token, BadLength, TooLong, BadOffsets, Unlisted, MisplacedFirst, MisplacedLater, TooDeep, NearestBefore, NoneBefore, WrongParent, LastToken, EndsAfter, BadSpan}
+use Rattle.table.specs.Exactly.{Broken, broken-1, broken-2, broken-3, broken-4, broken-5, broken-12, broken-6, rank, place, Least, Token, BadLength, TooLong, BadOffsets, Unlisted, MisplacedFirst, MisplacedLater, TooDeep, NearestBefore, NoneBefore, WrongParent, EndsAfter, BadSpan}
 use Rattle.lent.proofs.Cases.{lt-or-le}
 
 pub clash : {b : Bool} → b ≡ false → b ≡ true → ⊥

@@ -5,21 +5,21 @@ use Prim.Native.Nat.{ℕ, zero, suc, _+_, _-_, _≤_, _<_}
 use mathlib.Core.Path.{_≡_, refl, sym, ap, _∙_}
 use mathlib.Core.Bool.{Bool, true, false, cond, not, _&&_, _||_}
 use mathlib.Core.Logic.{⊎-elim}
-use mathlib.Core.List.{List, [], _∷_, _++_}
+use mathlib.Core.List.{List}
 use native.Mathlib.Numerals.{add-one}
 use native.Mathlib.Nat.{zero-add}
 use native.Mathlib.Omega.{arith}
-use borrow.Author.Tests.{lt-ltb, le-ltb, le-leb, lt-leb, eq-eqb, ne-eqb, ltb-true, ltb-false, leb-true, eqb-true, not-false}
+use borrow.Author.Tests.{le-ltb, le-leb, lt-leb, eq-eqb, ne-eqb, ltb-true, ltb-false, leb-true, eqb-true}
 use lib.Dec.{eqb, ltb, leb}
 use lib.ListN.{length, getD, set, replicate, length-set}
 use lib.Seq.{getD-set-same, getD-set-other}
 use Rattle.lent.specs.declared.verdict.Verdict.the-variants.{Admitted}
-use Rattle.table.specs.Kinds.{isNode, isToken, lastNode, otherToken, arrow}
+use Rattle.table.specs.Kinds.{isNode, isToken, lastNode, otherToken}
 use Rattle.lent.specs.Numbers.{wordLimit}
 use Rattle.table.specs.Table.{count, kindAt, depthAt, startAt, endAt, parentAt, recordAt}
 use Rattle.table.specs.Rules.{mostDepth, unlisted, misplaced, tooDeep, nearest, parentOf, wrongParent, badSpan, lastEnd, rulesFrom}
 use Rattle.lent.specs.Verdicts.{first}
-use Rattle.table.specs.inner.Step.{depths, below, deepestNext, knownAt, outOfPlace}
+use Rattle.table.specs.inner.Step.{depths, deepestNext, knownAt, outOfPlace}
 use Rattle.table.specs.inner.Fast.{firstFits, tokenFits, deepestUnder}
 use Rattle.lent.proofs.Cases.{lt-or-le, eq-or-not, both}
 use Rattle.table.proofs.Checks.{place-at}

@@ -1,6 +1,6 @@
 -- What is meant by a refusal that is given exactly when its condition holds and none before it in the order does.
 -- Definitions only; the theorems are in proofs/Exactly.antt.
-use Prim.Native.Nat.{ℕ, zero, suc, _+_, _*_, _/_, _%_, _≤_, _<_}
+use Prim.Native.Nat.{ℕ, _+_, _*_, _/_, _%_, _≤_, _<_}
 use mathlib.Core.Path.{_≡_}
 use mathlib.Core.Bool.{true, cond}
 use mathlib.Core.List.{List}

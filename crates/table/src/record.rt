@@ -1,9 +1,8 @@
 // A record is twenty bytes, five 32-bit little-endian numbers: kind, depth, start, end, parent.
 use lent::number::word_at;
 ghost use mathlib.Core.Path.{_≡_};
-ghost use Prim.Native.Nat.{_+_, _≤_, _<_};
-ghost use lib.ListN.{length};
-ghost use Rattle.lent.specs.Numbers.{word, wordLimit};
+ghost use Prim.Native.Nat.{_+_, _<_};
+ghost use Rattle.lent.specs.Numbers.{wordLimit};
 ghost use Rattle.table.specs.Table.{count, kindAt, depthAt, startAt, endAt, parentAt, recordAt};
 
 // How many bytes a record has.

@@ -1,10 +1,10 @@
 -- A function's name.
 -- Assumes nothing.
 use Prim.Native.Nat.{ℕ, _+_, _*_, _≤_, _<_}
-use mathlib.Core.Path.{_≡_, refl, sym, ap, _∙_}
+use mathlib.Core.Path.{_≡_, refl, sym, _∙_}
 use mathlib.Core.Logic.{⊎-elim}
 use mathlib.Core.Bool.{Bool, true, false, cond}
-use mathlib.Core.List.{List, [], _∷_}
+use mathlib.Core.List.{List}
 use native.Mathlib.Omega.{arith}
 use borrow.Author.Tests.{eq-eqb, ne-eqb}
 use lib.Dec.{eqb}
@@ -12,7 +12,7 @@ use lib.ListN.{drop}
 use Rattle.table.specs.declared.record.Rec.{Rec}
 use Rattle.table.specs.Kinds.{lastNode, bareWord, openingRound, identifier}
 use Rattle.table.specs.Table.{recordBytes, count, kindAt, recordAt, from, records}
-use Rattle.forest.specs.Forest.{Forest, nil, token, node, kids, children, Child}
+use Rattle.forest.specs.Forest.{Forest, token, node, kids, children, Child}
 use Rattle.forest.proofs.Laws.{node-or-token, records-tail}
 use Rattle.forest.proofs.Walks.{walk-here, walk-at-node, walk-on}
 use Rattle.table.specs.declared.range.Range.{Range}

@@ -2,9 +2,7 @@
 -- Definitions only.
 use Prim.Native.Nat.{ℕ, _+_}
 use mathlib.Core.Bool.{Bool, true, false, cond, not, _&&_, _||_}
-use mathlib.Core.List.{List, [], _∷_}
 use lib.Dec.{ltb, eqb}
-use Rattle.table.specs.declared.record.Rec.{Rec}
 use Rattle.table.specs.Kinds.{functionCall, aggregateFunction, identifier, bareWord, comma, openingRound}
 use Rattle.forest.specs.Forest.{Forest, nil, token, node}
 use Rattle.forest.specs.Tokens.{reached}

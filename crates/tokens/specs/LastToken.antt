@@ -9,7 +9,6 @@ use Rattle.table.specs.Kinds.{whitespace, comment}
 use Rattle.forest.specs.Forest.{Forest}
 use Rattle.forest.specs.Tokens.{reached}
 use Rattle.lent.specs.Text.{text, bytesOf, same, says}
-use Rattle.table.specs.declared.range.Range.{Range}
 use Rattle.tokens.specs.declared.last_token.Name.{Name}
 use Rattle.tokens.specs.declared.last_token.Name.the-variants.{Nameless, Named}
 use Rattle.tokens.specs.declared.last_token.LastTwo.{LastTwo}

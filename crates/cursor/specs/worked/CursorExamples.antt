@@ -3,7 +3,7 @@
 use Prim.Native.Nat.{ℕ}
 use mathlib.Core.Path.{_≡_, refl}
 use mathlib.Core.List.{List, [], _∷_, _++_}
-use Rattle.table.specs.Kinds.{otherNode, file, queryList, error, selectStatement, insertStatement, createStatement, alterStatement, selectClause, fromClause, joinClause, whereClause, orderByClause, settingsClause, settingList, engineClause, formatClause, insertFormatClause, joinConstraint, tableIdentifier, tableAlias, columnDefinition, columnTypeDefinition, columnCodec, functionCall, aggregateFunction, identifier, columnReference, otherToken, whitespace, bareWord, comma, openingRound, closingRound}
+use Rattle.table.specs.Kinds.{otherNode, file, queryList, error, selectStatement, insertStatement, selectClause, fromClause, joinClause, whereClause, orderByClause, settingsClause, settingList, engineClause, formatClause, insertFormatClause, joinConstraint, tableIdentifier, tableAlias, columnDefinition, columnTypeDefinition, columnCodec, functionCall, aggregateFunction, identifier, columnReference, otherToken, whitespace, bareWord, comma, openingRound, closingRound}
 use Rattle.lent.specs.Numbers.{word}
 use Rattle.table.specs.Table.{recordAt, run, from}
 use Rattle.forest.specs.Forest.{level, kids}
@@ -11,7 +11,6 @@ use Rattle.forest.specs.Tokens.{only, tokensOf}
 use Rattle.forest.specs.Descent.{path, pathOf, along}
 use Rattle.lent.specs.Text.{text, bytesOf, upper, says}
 use Rattle.table.specs.worked.Worked.{rec}
-use Rattle.table.specs.declared.range.Range.{Range}
 use Rattle.path.specs.Path.{deepestOr, onPath, nextOf, isDeepest, deepestOver}
 use Rattle.tokens.specs.LastToken.{lastOr, init, lastTwo, isText, isWord, dotted, isJoinWord}
 use Rattle.tokens.specs.Function.{bareWordIn, orName, functionName, argued, arguments}

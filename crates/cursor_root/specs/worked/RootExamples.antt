@@ -3,7 +3,7 @@
 use Prim.Native.Nat.{ℕ}
 use mathlib.Core.Path.{_≡_, refl}
 use mathlib.Core.List.{List, [], _∷_, _++_}
-use Rattle.table.specs.Kinds.{file, selectStatement, withClause, subqueryExpression, bareWord}
+use Rattle.table.specs.Kinds.{file, selectStatement, subqueryExpression, bareWord}
 use Rattle.lent.specs.Numbers.{word}
 use Rattle.table.specs.Table.{recordAt, run, from}
 use Rattle.forest.specs.Forest.{level, kids}

@@ -1,7 +1,6 @@
 -- The offsets of a list of bytes, computed.
 use mathlib.Core.Path.{_≡_, refl}
-use mathlib.Core.List.{List, [], _∷_, _++_}
-use Prim.Native.Nat.{ℕ}
+use mathlib.Core.List.{[], _∷_, _++_}
 use Rattle.lent.specs.Numbers.{word, le4}
 use Rattle.cursors.specs.Cursors.{offsetsFrom, offsetsOf}
 

@@ -2,7 +2,7 @@
 -- Definitions only.
 use Prim.Native.Nat.{ℕ}
 use mathlib.Core.Bool.{cond}
-use mathlib.Core.List.{List, [], _∷_}
+use mathlib.Core.List.{[], _∷_}
 use Rattle.table.specs.Kinds.{file, queryList, error, insertStatement, selectClause, fromClause, joinClause, prewhereClause, whereClause, groupByClause, havingClause, orderByClause, settingsClause, settingList, engineClause, formatClause, insertFormatClause, tableIdentifier, columnDefinition, columnTypeDefinition, columnCodec, dataType, dataTypeParameters, functionCall, aggregateFunction}
 use Rattle.path.specs.declared.gathered.Next.{Next}
 use Rattle.path.specs.Path.{oneOf, isDeepest, deepestOver}

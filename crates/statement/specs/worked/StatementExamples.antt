@@ -10,7 +10,6 @@ use Rattle.forest.specs.Forest.{level, kids}
 use Rattle.forest.specs.Descent.{path, pathOf}
 use Rattle.table.specs.Ranges.{holds}
 use Rattle.table.specs.worked.Worked.{rec}
-use Rattle.statement.specs.declared.statement.Enclosing.{Enclosing}
 use Rattle.statement.specs.declared.statement.Enclosing.the-variants.{Outside, Record}
 use Rattle.statement.specs.Statement.{orElse, firstFind, enclosingAt}
 

@@ -2,7 +2,7 @@
 -- Definitions only. A reader of the verdict needs none of them.
 use Prim.Native.Nat.{ℕ, zero, suc, _+_}
 use mathlib.Core.Bool.{Bool, cond, not, _&&_, _||_}
-use mathlib.Core.List.{List, [], _∷_}
+use mathlib.Core.List.{List, _∷_}
 use lib.Dec.{ltb, eqb}
 use Rattle.table.specs.declared.record.Rec.{Rec}
 use Rattle.table.specs.declared.check.Known.{Known}

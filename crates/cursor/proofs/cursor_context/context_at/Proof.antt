@@ -1,6 +1,5 @@
 use Rattle.cursor.proofs.Rules.{analyzed-context}
 use mathlib.Core.Path.{_∙_}
-use borrow.Author.Needs.{needs}
 use native.Mathlib.Omega.{arith}
 use Rattle.cursor.proofs.cursor_context.context_at.Statement.{statement}
 use Rattle.cursor.proofs.cursor_context.context_at.Tie as tie

@@ -1,6 +1,5 @@
 use Rattle.forest.proofs.Sense.{admitted-sized}
 use Rattle.cursor_root.proofs.Roots.{root-refused, root-given}
-use native.Mathlib.Omega.{arith}
 use borrow.Author.Needs.{needs}
 use Rattle.cursor_root.proofs.root.cursor_root.Statement.{statement}
 use Rattle.cursor_root.proofs.root.cursor_root.Tie as tie

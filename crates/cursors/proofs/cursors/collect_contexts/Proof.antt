@@ -2,11 +2,11 @@ use Rattle.cursors.proofs.CursorsLaws.{Taking, taking-start, taking-ste
 use Rattle.cursors.proofs.BegunLaws.{begun-first}
 use Rattle.cursors.specs.inner.Ready.{Begun}
 use Rattle.contexts.specs.Context.{coded}
-use Rattle.table.specs.Rules.{mostOffsets, offsetBytes}
+use Rattle.table.specs.Rules.{offsetBytes}
 use lib.ListN.{length}
 use borrow.Author.Needs.{needs}
 use mathlib.Core.Path.{_≡_, refl, ap, _∙_}
-use Prim.Native.Nat.{_+_, _-_, _*_, _/_, _≤_}
+use Prim.Native.Nat.{_-_, _*_, _/_, _≤_}
 use native.Mathlib.Omega.{arith}
 use Rattle.cursors.proofs.cursors.collect_contexts.Statement.{statement}
 use Rattle.cursors.proofs.cursors.collect_contexts.Tie as tie

@@ -1,7 +1,7 @@
 use Rattle.lines.specs.inner.Reading.{lineSpan}
 use Rattle.lines.proofs.Reading.{span-next, span-found, span-end}
 use lib.ListN.{length, drop}
-use mathlib.Core.Path.{_≡_, refl}
+use mathlib.Core.Path.{_≡_}
 use Prim.Native.Nat.{_+_, _-_, _≤_}
 use native.Mathlib.Omega.{arith}
 use Rattle.lines.proofs.input.line_end.Statement.{statement}

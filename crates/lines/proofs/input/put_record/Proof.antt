@@ -1,7 +1,7 @@
 use Rattle.lines.specs.Frame.{hexNumber, fieldsOf}
 use Rattle.lines.proofs.Reading.{text-most}
 use lib.ListN.{length}
-use mathlib.Core.Path.{ap, _∙_}
+use mathlib.Core.Path.{ap}
 use native.Mathlib.Omega.{arith}
 use borrow.Author.Needs.{needs}
 use Rattle.lines.proofs.input.put_record.Statement.{statement}

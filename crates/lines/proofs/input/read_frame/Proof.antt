@@ -1,4 +1,4 @@
-use Rattle.lines.specs.inner.Reading.{ReadRecords, ReadFrame}
+use Rattle.lines.specs.inner.Reading.{ReadFrame}
 use Rattle.lines.proofs.Reading.{fails, passes, no-source, no-offset, no-record, records-ruled, records-faulty, records-read, frame-source, frame-offset, frame-table, source-front, source-short, numbers-long}
 use lib.ListN.{take, length-take}
 use lib.Seq.{length-take-le}

@@ -3,9 +3,8 @@ use Rattle.lines.specs.inner.Reading.{ReadRecords}
 use Rattle.lines.proofs.Reading.{Reading, reading-start, reading-faulty, reading-next, reading-few, reading-end}
 use lib.ListN.{length, length-take, length-drop}
 use mathlib.Core.Path.{_≡_, refl, ap}
-use Prim.Native.Nat.{_+_, _*_, _≤_}
+use Prim.Native.Nat.{_≤_}
 use native.Mathlib.Omega.{arith}
-use borrow.Author.Needs.{needs}
 use Rattle.lines.proofs.input.read_records.Statement.{statement}
 use Rattle.lines.proofs.input.read_records.Tie as tie
 

@@ -3,7 +3,6 @@ use Rattle.forest.proofs.Sense.{admitted-sized}
 use Rattle.lent.proofs.Writes.{list-refused, list-admitted}
 use Rattle.table.proofs.Checks.{rules-refused, rules-passed}
 use Rattle.tables.specs.inner.Rows.{asRow}
-use native.Mathlib.Omega.{arith}
 use borrow.Author.Needs.{needs}
 use Rattle.offers.proofs.offers.offer.Statement.{statement}
 use Rattle.offers.proofs.offers.offer.Tie as tie

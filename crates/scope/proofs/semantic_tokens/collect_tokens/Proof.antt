@@ -1,11 +1,11 @@
-use Prim.Native.Nat.{_+_, _-_, _*_, _≤_}
+use Prim.Native.Nat.{_-_, _*_, _≤_}
 use mathlib.Core.Path.{_≡_}
 use native.Mathlib.Omega.{arith}
 use borrow.Author.Needs.{needs}
 use lib.ListN.{length}
 use Rattle.lent.specs.Lists.{Written}
 use Rattle.scope.specs.Classes.{classRow, entryBytes}
-use Rattle.scope.specs.inner.Carried.{givenBelow, Carries}
+use Rattle.scope.specs.inner.Carried.{givenBelow}
 use Rattle.scope.proofs.ClassLaws.{class-start, class-over, class-put}
 use Rattle.scope.proofs.semantic_tokens.collect_tokens.Statement.{statement}
 use Rattle.scope.proofs.semantic_tokens.collect_tokens.Tie as tie

@@ -8,7 +8,6 @@ use Rattle.lent.proofs.Writes.{list-refused, list-admitted}
 use Rattle.lent.specs.Text.{bytesOf}
 use mathlib.Core.List.{flatten}
 use mathlib.Core.Path.{refl, sym, _∙_}
-use native.Mathlib.Omega.{arith}
 use borrow.Author.Needs.{needs}
 use Rattle.scope.proofs.semantic_tokens.token_classes.Statement.{statement}
 use Rattle.scope.proofs.semantic_tokens.token_classes.Tie as tie

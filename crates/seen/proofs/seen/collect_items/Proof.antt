@@ -1,6 +1,5 @@
 use Rattle.seen.proofs.SeenLaws.{Picking, pick-start, pick-end, pick-stop, pick-over, pick-on, pick-held, pick-item}
-use Rattle.table.specs.Table.{recordBytes, count}
-use lib.ListN.{length, drop}
+use lib.ListN.{length}
 use mathlib.Core.Path.{_≡_, sym, _∙_}
 use Prim.Native.Nat.{_+_, _-_, _*_, _≤_}
 use native.Mathlib.Omega.{arith}

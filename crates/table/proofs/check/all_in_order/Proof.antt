@@ -1,6 +1,4 @@
 use Rattle.table.proofs.Fast.{never, InOrder, order-start, order-node, order-token, order-end}
-use Rattle.table.specs.Table.{count}
-use Rattle.table.specs.Rules.{mostRecords}
 use borrow.Author.Tests.{leb-true, not-false}
 use mathlib.Core.Path.{refl, sym, _∙_}
 use Prim.Native.Nat.{_-_, _≤_}
