@@ -7,7 +7,7 @@ use table::check::check;
 ghost use mathlib.Core.Path.{_≡_};
 ghost use Prim.Native.Nat.{_<_};
 ghost use lib.ListN.{length};
-ghost use Rattle.table.specs.Table.{count};
+ghost use Rattle.records.specs.Table.{count};
 ghost use Rattle.lent.specs.Numbers.{wordLimit};
 ghost use Rattle.table.specs.Rules.{verdict};
 ghost use Rattle.cursor_root.specs.Root.{rootAt, rootReply};

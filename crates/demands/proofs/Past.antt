@@ -9,8 +9,8 @@ use mathlib.Core.Logic.{⊎-elim}
 use native.Mathlib.Omega.{arith}
 use native.Mathlib.Nat.{add-zero, zero-add}
 use lib.ListN.{length}
-use Rattle.table.specs.declared.record.Rec.{Rec}
-use Rattle.table.specs.Table.{count, depthAt, recordAt, run, from}
+use Rattle.records.specs.declared.record.Rec.{Rec}
+use Rattle.records.specs.Table.{count, depthAt, recordAt, run, from}
 use Rattle.forest.specs.Forest.{level, kids, inside}
 use Rattle.forest.specs.inner.Scan.{ofTokens}
 use Rattle.forest.specs.inner.Ordered.{Ordered}

@@ -1,7 +1,7 @@
 // A frame's lines: hexadecimal digits to the source, the offset and the table.
 use lent::list::put_entry;
 use lent::text::text_of;
-use table::record::RECORD_BYTES;
+use records::record::RECORD_BYTES;
 ghost use mathlib.Core.Path.{_≡_};
 ghost use Prim.Native.Nat.{_+_, _*_, _≤_, _<_};
 ghost use lib.ListN.{length, drop};

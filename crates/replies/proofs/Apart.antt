@@ -12,7 +12,8 @@ use Rattle.lent.specs.declared.verdict.Verdict.the-variants.{Admitted, Refused}
 use Rattle.lent.specs.declared.list.Listed.{Listed}
 use Rattle.lent.specs.declared.list.Listed.the-variants.{Entries, Refused as Denied}
 use Rattle.lent.specs.Verdicts.{Rule, rule, first}
-use Rattle.table.specs.Rules.{rules, rulesFrom, rootRules, numberRules, offsetRules}
+use Rattle.refusals.specs.ByRecord.{rulesFrom}
+use Rattle.table.specs.Rules.{rules, rootRules, numberRules, offsetRules}
 use Rattle.lent.specs.Lists.{roomRule}
 use Rattle.brackets.specs.declared.bracket_matching.Hint.the-variants.{Opener, NoOpener}
 use Rattle.brackets.specs.declared.bracket_matching.HintReply.{HintReply}

@@ -24,7 +24,7 @@ use Rattle.cursor.specs.CursorContext.{contextAt}
 use Rattle.contexts.specs.Context.{coded}
 use Rattle.lines.specs.Lines.{lf}
 use Rattle.lent.specs.Numbers.{wordLimit}
-use Rattle.table.specs.Ranges.{absentNumber}
+use Rattle.records.specs.Ranges.{absentNumber}
 
 -- ---- the bytes that stand for themselves: a space, and the letters that begin the lines
 

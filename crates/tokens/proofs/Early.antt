@@ -11,9 +11,9 @@ use mathlib.Core.List.{List, [], _∷_}
 use mathlib.Core.Logic.{⊎-elim}
 use native.Mathlib.Omega.{arith}
 use borrow.Author.Tests.{lt-leb, le-leb, lt-ltb, le-ltb, leb-false}
-use Rattle.table.specs.declared.record.Rec.{Rec}
-use Rattle.table.specs.Kinds.{isNode, lastNode}
-use Rattle.table.specs.Table.{count, kindAt, startAt, recordAt, run, from, records}
+use Rattle.records.specs.declared.record.Rec.{Rec}
+use Rattle.records.specs.Kinds.{isNode, lastNode}
+use Rattle.records.specs.Table.{count, kindAt, startAt, recordAt, run, from, records}
 use Rattle.forest.specs.Forest.{kids}
 use Rattle.forest.specs.inner.Scan.{ofTokens}
 use Rattle.forest.specs.inner.Ordered.{Ordered}

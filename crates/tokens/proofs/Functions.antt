@@ -9,13 +9,13 @@ use native.Mathlib.Omega.{arith}
 use borrow.Author.Tests.{eq-eqb, ne-eqb}
 use lib.Dec.{eqb}
 use lib.ListN.{drop}
-use Rattle.table.specs.declared.record.Rec.{Rec}
-use Rattle.table.specs.Kinds.{lastNode, bareWord, openingRound, identifier}
-use Rattle.table.specs.Table.{recordBytes, count, kindAt, recordAt, from, records}
+use Rattle.records.specs.declared.record.Rec.{Rec}
+use Rattle.records.specs.Kinds.{lastNode, bareWord, openingRound, identifier}
+use Rattle.records.specs.Table.{recordBytes, count, kindAt, recordAt, from, records}
 use Rattle.forest.specs.Forest.{Forest, token, node, kids, children, Child}
 use Rattle.forest.proofs.Laws.{node-or-token, records-tail}
 use Rattle.forest.proofs.Walks.{walk-here, walk-at-node, walk-on}
-use Rattle.table.specs.declared.range.Range.{Range}
+use Rattle.records.specs.declared.range.Range.{Range}
 use Rattle.tokens.specs.declared.last_token.Name.{Name}
 use Rattle.tokens.specs.declared.last_token.Name.the-variants.{Nameless, Named}
 use Rattle.tokens.specs.declared.function.Naming.{Naming}

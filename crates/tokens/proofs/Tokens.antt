@@ -8,9 +8,9 @@ use native.Mathlib.Omega.{arith}
 use borrow.Author.Tests.{leb-true, leb-false, ne-eqb}
 use lib.Dec.{eqb}
 use lib.ListN.{length, getD}
-use Rattle.table.specs.declared.record.Rec.{Rec}
-use Rattle.table.specs.Kinds.{isNode, lastNode}
-use Rattle.table.specs.Table.{count, kindAt, depthAt, startAt, endAt, recordAt, records}
+use Rattle.records.specs.declared.record.Rec.{Rec}
+use Rattle.records.specs.Kinds.{isNode, lastNode}
+use Rattle.records.specs.Table.{count, kindAt, depthAt, startAt, endAt, recordAt, records}
 use Rattle.forest.specs.Forest.{Forest, kids}
 use Rattle.forest.specs.inner.Scan.{Reading, ofTokens}
 use Rattle.forest.specs.Descent.{along}

@@ -2,7 +2,7 @@ use Rattle.path.proofs.Steps.{way, way-gathered, nothing-within, chosen
 use Rattle.path.proofs.StartLaws.{starts-level}
 use Rattle.path.specs.inner.Gathered.{Within, nothing}
 use Rattle.forest.proofs.Descents.{answer, Level, descent-start, descent-walk, descent-on, descent-tail, descent-end}
-use Rattle.table.specs.Table.{count, records, recordAt}
+use Rattle.records.specs.Table.{count, records, recordAt}
 use mathlib.Core.Logic.{⊎-elim}
 use mathlib.Core.Path.{_≡_, sym, _∙_}
 use Prim.Native.Nat.{_-_, _+_, _≤_, _<_}
