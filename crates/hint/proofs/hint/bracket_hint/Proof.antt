@@ -1,11 +1,11 @@
 use Rattle.brackets.proofs.BracketLaws.{hinted-refused, hinted-admitted}
 use Rattle.brackets.proofs.OneByOne.{admitted-stacks}
 use Rattle.forest.proofs.Sense.{admitted-tidy}
 use lib.ListN.{length}
 use mathlib.Core.Path.{sym, _∙_}
 use borrow.Author.Needs.{needs}
-use Rattle.brackets.proofs.bracket_matching.bracket_hint.Statement.{statement}
-use Rattle.brackets.proofs.bracket_matching.bracket_hint.Tie as tie
+use Rattle.hint.proofs.hint.bracket_hint.Statement.{statement}
+use Rattle.hint.proofs.hint.bracket_hint.Tie as tie
 
 pub bracket-hint-spec : {M : Type 1} → statement M
 bracket-hint-spec =

@@ -1,11 +1,11 @@
 use Rattle.brackets.proofs.BracketLaws.{last-none, last-here, last-on}
 use Rattle.brackets.specs.inner.BracketStack.{stackOf, lastBy}
 use lib.ListN.{length}
 use mathlib.Core.Path.{_≡_, refl}
 use Prim.Native.Nat.{_-_, _≤_}
 use native.Mathlib.Omega.{arith}
-use Rattle.brackets.proofs.bracket_matching.last_opener.Statement.{statement}
-use Rattle.brackets.proofs.bracket_matching.last_opener.Tie as tie
+use Rattle.hint.proofs.hint.last_opener.Statement.{statement}
+use Rattle.hint.proofs.hint.last_opener.Tie as tie
 
 abbrev Inv-loop : tie.InvT-loop
 Inv-loop stack n shape j₀ j = ((j ≤ n) × (n ≤ length stack)) × (lastBy shape (stackOf stack n) ≡ lastBy shape (stackOf stack j))
