@@ -6,7 +6,7 @@ use lines::input::MOST_LINES;
 use lines::input::OFFSET_DIGITS;
 use lines::input::RECORD_DIGITS;
 use lines::input::TABLE_ROOM;
-use lines::input::read_frame;
+use reader::read::read_frame;
 use records::record::RECORD_BYTES;
 use report::output::LINE_ROOM;
 use report::output::MOST_REFERENCES;
