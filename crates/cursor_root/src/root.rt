@@ -1,6 +1,6 @@
 // The root whose names are offered at the cursor.
+use descent::descent::find_node_path;
 use lent::verdict::Verdict;
-use path::path::find_node_path;
 use statement::statement::Enclosing;
 use statement::statement::find_enclosing_statement;
 use table::check::check;

@@ -41,7 +41,7 @@ module _ (test : ℕ → Bool) (field : Gathered → ℕ)
       → field (along (λ g r. stepped g (r .kind) (r .index)) g l) ≡ numbered (deepestOr best test l)
   unfolding along deepestOr
   along-deepest [] g best e = e
-  along-deepest (r ∷ l) g best e = along-deepest l _ _ (steps g r ∙ go (test (r .kind)))
+  along-deepest (r ∷ l) g best e = along-deepest l (stepped g (r .kind) (r .index)) (cond (test (r .kind)) (some r) best) (steps g r ∙ go (test (r .kind)))
     where
       go : (b : Bool) → cond b (r .index + 1) (field g) ≡ numbered (cond b (some r) best)
       go true = unfold numbered in add-one (r .index)

@@ -1,12 +1,12 @@
 // The path: from record 0 down to the offset.
-use crate::gathered::Gathered;
-use crate::gathered::NOTHING;
-use crate::gathered::Next;
-use crate::gathered::enter;
-use crate::gathered::settle;
-use crate::rules::chosen;
 use forest::stretch::child_from;
 use forest::stretch::rest_from;
+use path::gathered::Gathered;
+use path::gathered::NOTHING;
+use path::gathered::Next;
+use path::gathered::enter;
+use path::gathered::settle;
+use path::rules::chosen;
 use records::range::is_holder;
 use records::record::count_of;
 use records::record::kind_at;

@@ -1,7 +1,7 @@
 use Rattle.path.proofs.StartLaws.{starts-first}
 use native.Mathlib.Omega.{arith}
-use Rattle.path.proofs.path.find_node_path.Statement.{statement}
-use Rattle.path.proofs.path.find_node_path.Tie as tie
+use Rattle.descent.proofs.descent.find_node_path.Statement.{statement}
+use Rattle.descent.proofs.descent.find_node_path.Tie as tie
 
 pub find-node-path-spec : {M : Type 1} → statement M
 find-node-path-spec =

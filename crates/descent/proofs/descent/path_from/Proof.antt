@@ -1,14 +1,14 @@
 use Rattle.path.proofs.Steps.{way, way-gathered, nothing-within, chosen-taken, chosen-passed}
 use Rattle.path.proofs.StartLaws.{starts-level}
 use Rattle.path.specs.inner.Gathered.{Within, nothing}
 use Rattle.forest.proofs.Descents.{answer, Level, descent-start, descent-walk, descent-on, descent-tail, descent-end}
 use Rattle.records.specs.Table.{count, records, recordAt}
 use mathlib.Core.Logic.{⊎-elim}
 use mathlib.Core.Path.{_≡_, sym, _∙_}
 use Prim.Native.Nat.{_-_, _+_, _≤_, _<_}
 use native.Mathlib.Omega.{arith}
-use Rattle.path.proofs.path.path_from.Statement.{statement}
-use Rattle.path.proofs.path.path_from.Tie as tie
+use Rattle.descent.proofs.descent.path_from.Statement.{statement}
+use Rattle.descent.proofs.descent.path_from.Tie as tie
 
 abbrev Inv-loop : tie.InvT-loop
 Inv-loop table offset first g s base start m child₀ i₀ child i = ((1 ≤ i) × (i ≤ m) × (child ≡ 0)) × Level (way offset) s base i g (answer (way offset) nothing (records 0 table))
