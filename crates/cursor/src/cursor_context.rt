@@ -72,7 +72,7 @@ fn analyze_path(table: &[u8], source: &[u8], offset: usize, path: Gathered) -> C
 }
 
 // The context, for a table that is admitted.
-fn context_at(table: &[u8], source: &[u8], offset: usize) -> CursorContext
+pub fn context_at(table: &[u8], source: &[u8], offset: usize) -> CursorContext
     requires { ⌜ (0 < count (now table)) × (count (now table) < wordLimit) × Ordered (now table) ⌝ }
     ensures { λ r. ⌜ r ≡ contextAt (now (source .entry)) (now (table .entry)) offset ⌝ }
 {

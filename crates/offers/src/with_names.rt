@@ -93,7 +93,7 @@ fn collect_offered(table: &[u8], n: usize, source: &[u8], out: &mut [u8], at: us
 
 // Lists the WITH names that are offered at the root n of a table that is admitted: counted on an empty part of the buffer, and written if there is
 // something to write and it has room.
-fn list_offered(table: &[u8], n: usize, source: &[u8], out: &mut [u8]) -> Listed
+pub fn list_offered(table: &[u8], n: usize, source: &[u8], out: &mut [u8]) -> Listed
     requires { ⌜ ((n < count (now table)) × (count (now table) ≤ mostRecords) × (depthAt (now table) n ≤ mostDepth)) × Climbs (now table) ⌝ }
     ensures { λ r. ⌜ Answers [] bindingRow (offeredIn (now (source .entry)) (now (table .entry)) n) (now (out .entry)) r (now (out .exit)) ⌝ }
 {
