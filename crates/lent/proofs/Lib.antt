@@ -1,4 +1,5 @@
 pub mod Cases
+pub mod Copies
 pub mod Texts
 pub mod Verdicts
 pub mod Writes

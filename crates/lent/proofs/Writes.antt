@@ -4,8 +4,7 @@
 --     fill-sets, written-whole      all of them where they have room
 --     list-refused, list-admitted   a question that its own rules refuse; one that they admit
 --     sized-filled, sized-short     all entries are written; they are counted, and have no room
---     sized-written, sized-none,    the same where they are counted on an empty part of the buffer itself
---     sized-denied
+--     sized-copied                  they are written to bytes that are kept aside, and copied
 --     list-filled, list-short       the same where every entry that there can be is of one width
 --     written-map, written-rows, listed-map, ..   entries that are rows of numbers already
 -- Assumes nothing.
@@ -16,7 +15,7 @@ use native.Mathlib.Omega.{arith}
 use native.Mathlib.Nat.{add-zero, zero-add, add-assoc, suc-mul, mul-div-cancel}
 use native.Mathlib.Numerals.{add-one}
 use lib.ListN.{length, take, drop, set, getD, length-append, length-map}
-use lib.Seq.{sets, sets-eq, length-sets, take-suc, take-all, length-take-le}
+use lib.Seq.{sets, sets-eq, length-sets, take-suc, take-all, take-append-seam, length-take-le}
 use borrow.Author.Tests.{lt-ltb, le-ltb}
 use Rattle.lent.specs.declared.verdict.Verdict.the-variants.{Admitted, Refused}
 use Rattle.lent.specs.declared.list.Listed.{Listed}
@@ -36,10 +35,6 @@ sets-append [] ys l i = rw (add-zero i)
 sets-append (x ∷ xs) ys l i =
     let e : i + suc (length xs) ≡ suc i + length xs = omega arith in
     rw e (sets-append xs ys (set l i x) (suc i))
-
-front-none : (l out : List ℕ) → length l ≡ 0 → l ++ out ≡ out
-front-none [] out h = refl
-front-none (x ∷ l) out h = absurd (omega arith)
 
 module _ {E : Type 0} (row : E → List ℕ) where
   list-append : (xs ys : List E) → listBytes row (xs ++ ys) ≡ listBytes row xs ++ listBytes row ys
@@ -138,25 +133,15 @@ module _ {E : Type 0} (row : E → List ℕ) where
           let v = listed-short rs es out ok (omega arith) in
           (rw (← v, entries-of m c), rw (← v))
 
-      -- a function counts by a call on an empty part of out, `&mut out[..0]`, and writes by another call if all have room
-      module _ {e l : List ℕ} {m : ℕ} (c : Written row es e 0 l m) (z : length l ≡ 0) where
-        pub sized-written : {out′ : List ℕ} {m′ : ℕ} → Written row es (l ++ out) 0 out′ m′ → m ≤ length (l ++ out)
-            → (Entries (m / w) ≡ listed rs row es out) × (out′ ≡ lent rs row es out)
-        sized-written {out′} {m′} c′ h =
-            let q : l ++ out ≡ out = front-none l out z in
-            let same : m′ ≡ m = omega (arith, c .next, c′ .next) in
-            rw same at (sized-filled (rw q at c′) (omega (arith, ap length q)))
-
-        -- or there is nothing to write
-        pub sized-none : m ≡ 0 → (Entries (m / w) ≡ listed rs row es out) × (l ++ out ≡ lent rs row es out)
-        unfolding listed lent reply buffer
-        sized-none h =
-            let b : length (listBytes row es) ≡ 0 = omega (arith, c .next) in
-            let v = listed-room rs es out ok (omega arith) in
-            (rw (← v, entries-of m (omega (arith, c .next))), rw (← v, b) (front-none l out z ∙ sym (front-none (listBytes row es) out b)))
-
-        pub sized-denied : length (l ++ out) < m → (Denied 7 (m / w) ≡ listed rs row es out) × (l ++ out ≡ lent rs row es out)
-        sized-denied h = let q : l ++ out ≡ out = front-none l out z in rw q (sized-short (omega (arith, c .next)) (omega (arith, ap length q)))
+      -- a function writes to bytes that are kept aside, which hold all of it, and copies them
+      pub sized-copied : {kept kept′ out′ : List ℕ} {m : ℕ} → Written row es kept 0 kept′ m → m ≤ length kept → m ≤ length out → out′ ≡ take m kept′ ++ drop m out
+          → (Entries (m / w) ≡ listed rs row es out) × (out′ ≡ lent rs row es out)
+      unfolding listed lent reply buffer
+      sized-copied {kept} {kept′} {out′} {m} c h g q =
+          let z : m ≡ length (listBytes row es) = omega (arith, c .next) in
+          let v = listed-room rs es out ok (omega arith) in
+          let k : take m kept′ ≡ listBytes row es = rw (z, written-whole c (omega arith)) (take-append-seam (listBytes row es) _) in
+          (rw (← v, entries-of m z), rw (← v, ← z) (q ∙ rw k))
 
   -- the same where every entry that there can be has w bytes
   module _ (w : ℕ) (wide : (e : E) → numberBytes * length (row e) ≡ w) where

@@ -10,13 +10,13 @@ use mathlib.Core.List.{List, [], _∷_, _++_, append-assoc, append-nil}
 use native.Mathlib.Omega.{arith}
 use borrow.Author.Tests.{lt-ltb, le-ltb, ltb-false, eq-eqb, ne-eqb}
 use lib.Dec.{ltb}
-use lib.ListN.{length}
+use lib.ListN.{length, take, drop}
 use Rattle.records.specs.Kinds.{subqueryExpression}
 use Rattle.records.specs.Table.{count, kindAt, parentAt, part}
 use Rattle.forest.specs.Forest.{stretchEnd}
 use Rattle.lent.specs.declared.list.Listed.the-variants.{Entries, Refused as Denied}
 use Rattle.lent.specs.Lists.{listBytes, Written, Answers}
-use Rattle.lent.proofs.Writes.{written-none, written-then, written-rows, length-wide, sized-written, sized-none, sized-denied}
+use Rattle.lent.proofs.Writes.{written-none, written-then, written-rows, length-wide, sized-copied, sized-filled, sized-short}
 use Rattle.names.specs.declared.names.NameBinding.{NameBinding}
 use Rattle.names.specs.Bindings.{bindingRow, bindingBytes}
 use Rattle.tables.specs.inner.Rows.{asRow}
@@ -141,17 +141,20 @@ module _ (src t : List ℕ) (n : ℕ) where
   unfolding offeredIn enclosingRoots
   offered-around k w v = rw (eq-eqb (kindAt t n) subqueryExpression k) (written-then bindingRow w v)
 
-  -- ---- the list: counted on an empty part of the buffer, and then written
-  module _ (out : List ℕ) {e l : List ℕ} {m : ℕ} (c : Written bindingRow (offeredIn src t n) e 0 l m) (z : length l ≡ 0) where
+  -- ---- the list: written to bytes that are kept aside, and copied or written again
+  module _ (out : List ℕ) {kept kept′ : List ℕ} {m : ℕ} (c : Written bindingRow (offeredIn src t n) kept 0 kept′ m) where
     wide : length (listBytes bindingRow (offeredIn src t n)) ≡ length (offeredIn src t n) * bindingBytes
     wide = length-wide bindingRow bindingBytes (λ b. refl) (offeredIn src t n)
 
-    pub offered-written : {out′ : List ℕ} {m′ : ℕ} → Written bindingRow (offeredIn src t n) (l ++ out) 0 out′ m′ → m ≤ length (l ++ out)
+    pub offered-copied : {out′ : List ℕ} → m ≤ length kept → m ≤ length out → out′ ≡ take m kept′ ++ drop m out
         → Answers [] bindingRow (offeredIn src t n) out (Entries (m / bindingBytes)) out′
-    offered-written v h = sized-written bindingRow bindingBytes (offeredIn src t n) wide (omega arith) [] out refl c z v h
+    offered-copied h g e = sized-copied bindingRow bindingBytes (offeredIn src t n) wide (omega arith) [] out refl c h g e
 
-    pub offered-none : m ≡ 0 → Answers [] bindingRow (offeredIn src t n) out (Entries (m / bindingBytes)) (l ++ out)
-    offered-none h = sized-none bindingRow bindingBytes (offeredIn src t n) wide (omega arith) [] out refl c z h
+    pub offered-filled : {out′ : List ℕ} {m′ : ℕ} → Written bindingRow (offeredIn src t n) out 0 out′ m′ → m ≤ length out
+        → Answers [] bindingRow (offeredIn src t n) out (Entries (m / bindingBytes)) out′
+    offered-filled {out′} {m′} v h =
+        let same : m′ ≡ m = omega (arith, c .next, v .next) in
+        rw (← same) (sized-filled bindingRow bindingBytes (offeredIn src t n) wide (omega arith) [] out refl v (omega arith))
 
-    pub offered-denied : length (l ++ out) < m → Answers [] bindingRow (offeredIn src t n) out (Denied 7 (m / bindingBytes)) (l ++ out)
-    offered-denied h = sized-denied bindingRow bindingBytes (offeredIn src t n) wide (omega arith) [] out refl c z h
+    pub offered-short : length out < m → Answers [] bindingRow (offeredIn src t n) out (Denied 7 (m / bindingBytes)) out
+    offered-short h = sized-short bindingRow bindingBytes (offeredIn src t n) wide (omega arith) [] out refl (let x = c .next in omega arith) h

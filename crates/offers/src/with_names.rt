@@ -3,7 +3,9 @@ use collection::collection::Asked;
 use collection::collection::collect_scope;
 use cursor_root::root::root_at;
 use forest::stretch::stretch_of;
+use lent::list::KEPT_BYTES;
 use lent::list::Listed;
+use lent::list::copy_front;
 use lent::verdict::NO_ROOM;
 use lent::verdict::Verdict;
 use names::bindings::BINDING_BYTES;
@@ -91,22 +93,24 @@ fn collect_offered(table: &[u8], n: usize, source: &[u8], out: &mut [u8], at: us
     collect_around(table, n, source, out, next)
 }
 
-// Lists the WITH names that are offered at the root n of a table that is admitted: counted on an empty part of the buffer, and written if there is
-// something to write and it has room.
+// Lists the WITH names that are offered at the root n of a table that is admitted: walked into bytes that are kept aside, and copied from there where they
+// held all of it; a longer list is walked again where it has room.
 pub fn list_offered(table: &[u8], n: usize, source: &[u8], out: &mut [u8]) -> Listed
     requires { ⌜ ((n < count (now table)) × (count (now table) ≤ mostRecords) × (depthAt (now table) n ≤ mostDepth)) × Climbs (now table) ⌝ }
     ensures { λ r. ⌜ Answers [] bindingRow (offeredIn (now (source .entry)) (now (table .entry)) n) (now (out .entry)) r (now (out .exit)) ⌝ }
 {
-    let size = collect_offered(table, n, source, &mut out[..0], 0);
+    let mut kept = [0u8; KEPT_BYTES];
+    let size = collect_offered(table, n, source, &mut kept, 0);
     let entries = (size / BINDING_BYTES) as u32;
-    if size == 0 {
+    if out.len() < size {
+        return Listed::Refused(NO_ROOM, entries);
+    }
+    if size <= KEPT_BYTES {
+        copy_front(out, &kept, size);
         return Listed::Entries(entries);
     }
-    if size <= out.len() {
-        collect_offered(table, n, source, out, 0);
-        return Listed::Entries(entries);
-    }
-    Listed::Refused(NO_ROOM, entries)
+    collect_offered(table, n, source, out, 0);
+    Listed::Entries(entries)
 }
 
 // The WITH names that are offered at the offset: those of the cursor's root, then those that it sees of each enclosing root, nearest first.

@@ -6,7 +6,7 @@ use mathlib.Core.Bool.{Bool, true, false, cond, _||_}
 use mathlib.Core.List.{List, [], _++_, map, map-append}
 use native.Mathlib.Omega.{arith}
 use lib.Dec.{eqb}
-use lib.ListN.{length, length-map}
+use lib.ListN.{length, take, drop, length-map}
 use Rattle.lent.specs.declared.verdict.Verdict.{Verdict}
 use Rattle.lent.specs.declared.verdict.Verdict.the-variants.{Admitted, Refused}
 use Rattle.lent.specs.declared.list.Listed.{Listed}
@@ -18,9 +18,9 @@ use Rattle.conditions.specs.Conditions.{mostRecords}
 use Rattle.table.specs.Rules.{rootRules, rootVerdict}
 use Rattle.lent.specs.Verdicts.{Rule, first}
 use Rattle.lent.specs.Numbers.{numberBytes}
-use Rattle.lent.specs.Lists.{listBytes, listed, lent, Written}
+use Rattle.lent.specs.Lists.{listBytes, listed, lent, Answers, Written}
 use Rattle.table.proofs.Checks.{root-known}
-use Rattle.lent.proofs.Writes.{length-wide, bytes-map, listed-map, lent-map, sized-written, sized-none, sized-denied}
+use Rattle.lent.proofs.Writes.{length-wide, bytes-map, listed-map, lent-map, sized-copied, sized-filled, sized-short}
 use Rattle.names.specs.declared.names.Bound.{Bound}
 use Rattle.names.specs.declared.names.Bound.the-variants.{Unnamed, Named}
 use Rattle.tables.specs.declared.pending.Pending.{Pending}
@@ -158,19 +158,19 @@ module _ (t : List ℕ) (n i : ℕ) {v : Verdict} (e : v ≡ rootVerdict t n i) 
   pub root-some : v ≡ Admitted → (count t ≤ mostRecords) × (i < count t)
   root-some q = root-known t n i (sym q ∙ e)
 
-module _ (asked : Asked) (src t : List ℕ) (i : ℕ) (rs : List Rule) (out : List ℕ) {s e l : List ℕ} {m n : ℕ} (q : s ≡ part t i (stretchEnd t i)) (ok : Admitted ≡ first rs)
-    (c : Written asRow (collectionOf (ownRows asked src) i s) e 0 l m) (z : length l ≡ 0) (d : n ≡ m / width asked) where
-  pub rows-written : {out′ : List ℕ} {m′ : ℕ} → Written asRow (collectionOf (ownRows asked src) i s) (l ++ out) 0 out′ m′ → m ≤ length (l ++ out)
-      → (Entries n ≡ listed rs asRow (rowsAt asked src t i) out) × (out′ ≡ lent rs asRow (rowsAt asked src t i) out)
-  rows-written c′ h =
-      rw d (sized-written asRow (width asked) (rowsAt asked src t i) (wide-at asked src t i) (wide-some asked) rs out ok (rw q at c) z (rw q at c′) h)
+module _ (asked : Asked) (src t : List ℕ) (i : ℕ) (rs : List Rule) (out : List ℕ) {s kept kept′ : List ℕ} {m n : ℕ} (q : s ≡ part t i (stretchEnd t i)) (ok : Admitted ≡ first rs)
+    (c : Written asRow (collectionOf (ownRows asked src) i s) kept 0 kept′ m) (d : n ≡ m / width asked) where
+  pub rows-copied : {out′ : List ℕ} → m ≤ length kept → m ≤ length out → out′ ≡ take m kept′ ++ drop m out → Answers rs asRow (rowsAt asked src t i) out (Entries n) out′
+  rows-copied h g e = rw d (sized-copied asRow (width asked) (rowsAt asked src t i) (wide-at asked src t i) (wide-some asked) rs out ok (rw q at c) h g e)
 
-  pub rows-none : m ≡ 0 → (Entries n ≡ listed rs asRow (rowsAt asked src t i) out) × (l ++ out ≡ lent rs asRow (rowsAt asked src t i) out)
-  rows-none h = rw d (sized-none asRow (width asked) (rowsAt asked src t i) (wide-at asked src t i) (wide-some asked) rs out ok (rw q at c) z h)
+  pub rows-filled : {out′ : List ℕ} {m′ : ℕ} → Written asRow (collectionOf (ownRows asked src) i s) out 0 out′ m′ → m ≤ length out
+      → Answers rs asRow (rowsAt asked src t i) out (Entries n) out′
+  rows-filled {out′} {m′} c′ h =
+      let same : m′ ≡ m = omega (arith, c .next, c′ .next) in
+      rw (d, ← same) (sized-filled asRow (width asked) (rowsAt asked src t i) (wide-at asked src t i) (wide-some asked) rs out ok (rw q at c′) (omega arith))
 
-  pub rows-denied : length (l ++ out) < m
-      → (Denied 7 n ≡ listed rs asRow (rowsAt asked src t i) out) × (l ++ out ≡ lent rs asRow (rowsAt asked src t i) out)
-  rows-denied h = rw d (sized-denied asRow (width asked) (rowsAt asked src t i) (wide-at asked src t i) (wide-some asked) rs out ok (rw q at c) z h)
+  pub rows-short : length out < m → Answers rs asRow (rowsAt asked src t i) out (Denied 7 n) out
+  rows-short h = rw d (sized-short asRow (width asked) (rowsAt asked src t i) (wide-at asked src t i) (wide-some asked) rs out ok (let x = rw q at (c .next) in omega arith) h)
 
 -- the answer in rows is the answer in entries
 pub question : {E : Type 0} (row : E → List ℕ) (es : List E) {ls : List (List ℕ)} (rs : List Rule) (out : List ℕ) {r : Listed} {out′ : List ℕ} → ls ≡ map row es

@@ -2,7 +2,9 @@
 use collection::collection::Asked;
 use collection::collection::collect_scope;
 use forest::stretch::stretch_of;
+use lent::list::KEPT_BYTES;
 use lent::list::Listed;
+use lent::list::copy_front;
 use lent::verdict::NO_ROOM;
 use lent::verdict::Verdict;
 use names::bindings::BINDING_BYTES;
@@ -34,23 +36,26 @@ fn entries_of(asked: Asked, size: usize) -> usize
     }
 }
 
-// One list of a root of a table that is admitted: counted on an empty part of the buffer, and written if there is something to write and it has room.
+// One list of a root of a table that is admitted: walked into bytes that are kept aside, and copied from there where they held all of it; a longer list is
+// walked again where it has room.
 pub fn list_in(asked: Asked, table: &[u8], source: &[u8], root: usize, out: &mut [u8]) -> Listed
     requires { ⌜ (root < count (now table)) × (count (now table) ≤ mostRecords) ⌝ }
     ensures { λ r. ⌜ Answers [] asRow
         (rowsAt asked (now (source .entry)) (now (table .entry)) root) (now (out .entry)) r (now (out .exit)) ⌝ }
 {
     let s = stretch_of(table, root);
-    let size = collect_scope(asked, s, root, source, &mut out[..0], 0);
+    let mut kept = [0u8; KEPT_BYTES];
+    let size = collect_scope(asked, s, root, source, &mut kept, 0);
     let entries = entries_of(asked, size) as u32;
-    if size == 0 {
+    if out.len() < size {
+        return Listed::Refused(NO_ROOM, entries);
+    }
+    if size <= KEPT_BYTES {
+        copy_front(out, &kept, size);
         return Listed::Entries(entries);
     }
-    if size <= out.len() {
-        collect_scope(asked, s, root, source, out, 0);
-        return Listed::Entries(entries);
-    }
-    Listed::Refused(NO_ROOM, entries)
+    collect_scope(asked, s, root, source, out, 0);
+    Listed::Entries(entries)
 }
 
 // One list of a named root: the check, and then the list.
