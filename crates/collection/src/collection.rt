@@ -1,5 +1,6 @@
 // Collection: a node's own part, and then each child's.
-use forest::stretch::child_from;
+use crate::clauses::hands_on;
+use forest::nodes::node_from;
 use forest::stretch::stretch_of;
 use names::bindings::collect_column_aliases;
 use names::bindings::collect_ctes;
@@ -91,7 +92,7 @@ pub fn visits(k: usize) -> bool
     is_node(k) & (k != SUBQUERY_EXPRESSION)
 }
 
-// The collection of the node at the head of the stretch s, whose number is base: writes the list that is asked for into out from byte `at`
+// The collection of the node at the head of the stretch s, whose number is base; a child in which there is nothing to collect is passed over. Writes the list that is asked for into out from byte `at`
 // on, and returns where the next entry goes.
 pub fn collect_scope(
     asked: Asked,
@@ -110,14 +111,14 @@ pub fn collect_scope(
     if kind_at(s, 0) == WITH_CLAUSE {
         return next;
     }
-    let mut i = child_from(s, 1);
+    let mut i = node_from(s, 1);
     while i < m {
-        if visits(kind_at(s, i)) {
-            let part = stretch_of(s, i);
+        let part = stretch_of(s, i);
+        if hands_on(asked, part) {
             next = collect_scope(asked, part, base + i, source, out, next);
-            i = child_from(s, i + count_of(part));
+            i = node_from(s, i + count_of(part));
         } else {
-            i = child_from(s, i + 1);
+            i = node_from(s, i + count_of(part));
         }
     }
     next

@@ -1,3 +1,4 @@
 pub mod Climbing
+pub mod Nodes
 pub mod Ordered
 pub mod Scan
