@@ -1,8 +1,8 @@
 use Rattle.contexts.specs.PathRules.{column}
 use borrow.Author.Tests.{eq-eqb, ne-eqb}
 use borrow.Author.Needs.{needs}
-use Rattle.contexts.proofs.path_rules.column_context.Statement.{statement}
-use Rattle.contexts.proofs.path_rules.column_context.Tie as tie
+use Rattle.path_rules.proofs.rules.column_context.Statement.{statement}
+use Rattle.path_rules.proofs.rules.column_context.Tie as tie
 
 pub column-context-spec : {M : Type 1} → statement M
 unfolding column

@@ -1,10 +1,10 @@
-use Rattle.cursors.specs.inner.Ready.{Begun}
-use Rattle.cursors.proofs.BegunLaws.{begun-next}
+use Rattle.starts.specs.inner.Ready.{Begun}
+use Rattle.starts.proofs.BegunLaws.{begun-next}
 use mathlib.Core.Path.{refl}
 use Prim.Native.Nat.{_-_, _≤_}
 use native.Mathlib.Omega.{arith}
-use Rattle.cursors.proofs.starts.pass_child.Statement.{statement}
-use Rattle.cursors.proofs.starts.pass_child.Tie as tie
+use Rattle.starts.proofs.starts.pass_child.Statement.{statement}
+use Rattle.starts.proofs.starts.pass_child.Tie as tie
 
 abbrev Inv-loop : tie.InvT-loop
 Inv-loop table offsets i next starts₀ n moved₀ c₀ starts moved c = (c ≤ n) × Begun table offsets starts

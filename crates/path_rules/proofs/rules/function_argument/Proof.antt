@@ -1,7 +1,7 @@
 use Rattle.contexts.specs.PathRules.{functionArgument}
 use borrow.Author.Needs.{needs}
-use Rattle.contexts.proofs.path_rules.function_argument.Statement.{statement}
-use Rattle.contexts.proofs.path_rules.function_argument.Tie as tie
+use Rattle.path_rules.proofs.rules.function_argument.Statement.{statement}
+use Rattle.path_rules.proofs.rules.function_argument.Tie as tie
 
 pub function-argument-spec : {M : Type 1} → statement M
 unfolding functionArgument

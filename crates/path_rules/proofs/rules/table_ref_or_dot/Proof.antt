@@ -1,7 +1,7 @@
 use Rattle.contexts.specs.PathRules.{tableReference}
 use borrow.Author.Needs.{needs}
-use Rattle.contexts.proofs.path_rules.table_ref_or_dot.Statement.{statement}
-use Rattle.contexts.proofs.path_rules.table_ref_or_dot.Tie as tie
+use Rattle.path_rules.proofs.rules.table_ref_or_dot.Statement.{statement}
+use Rattle.path_rules.proofs.rules.table_ref_or_dot.Tie as tie
 
 pub table-ref-or-dot-spec : {M : Type 1} → statement M
 unfolding tableReference

@@ -21,7 +21,7 @@ use Rattle.conditions.specs.Conditions.{mostOffsets, offsetBytes}
 use Rattle.lent.proofs.Cases.{eq-or-not}
 use Rattle.path.specs.inner.Starts.{Starts}
 use Rattle.path.proofs.StartLaws.{starts-first, starts-on}
-use Rattle.cursors.specs.inner.Ready.{Begun}
+use Rattle.starts.specs.inner.Ready.{Begun}
 
 same-all : (n c x : ℕ) → c < n → getD (replicate n x) c 0 ≡ x
 same-all zero c x h = absurd (omega arith)

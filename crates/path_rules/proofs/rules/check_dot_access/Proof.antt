@@ -1,7 +1,7 @@
-use Rattle.contexts.proofs.Columns.{column-none, column-some}
+use Rattle.path_rules.proofs.Columns.{column-none, column-some}
 use borrow.Author.Needs.{needs}
-use Rattle.contexts.proofs.path_rules.check_dot_access.Statement.{statement}
-use Rattle.contexts.proofs.path_rules.check_dot_access.Tie as tie
+use Rattle.path_rules.proofs.rules.check_dot_access.Statement.{statement}
+use Rattle.path_rules.proofs.rules.check_dot_access.Tie as tie
 
 pub check-dot-access-spec : {M : Type 1} → statement M
 check-dot-access-spec =

@@ -15,7 +15,7 @@ ghost use Rattle.records.specs.Table.{count, kindAt, startAt, endAt};
 ghost use Rattle.records.specs.Kinds.{isNode};
 ghost use Rattle.records.specs.Ranges.{spans};
 ghost use Rattle.forest.specs.Forest.{Child};
-ghost use Rattle.cursors.specs.inner.Ready.{Ready, Begun};
+ghost use Rattle.starts.specs.inner.Ready.{Ready, Begun};
 
 // A cursor whose search is at child i goes on to the next: the child does not hold its offset.
 fn goes_on(table: &[u8], i: usize, at: usize, offset: usize) -> bool

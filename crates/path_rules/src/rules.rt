@@ -1,5 +1,5 @@
 // What the rules of the path's nodes give.
-use crate::context::CursorContext;
+use contexts::context::CursorContext;
 use path::rules::CODEC_RULE;
 use path::rules::COLUMN_RULE;
 use path::rules::DEFINITION_RULE;

@@ -1,8 +1,8 @@
-use Rattle.cursors.specs.inner.Ready.{Begun}
+use Rattle.starts.specs.inner.Ready.{Begun}
 use Prim.Native.Nat.{_-_, _≤_}
 use native.Mathlib.Omega.{arith}
-use Rattle.cursors.proofs.starts.begin_all.Statement.{statement}
-use Rattle.cursors.proofs.starts.begin_all.Tie as tie
+use Rattle.starts.proofs.starts.begin_all.Statement.{statement}
+use Rattle.starts.proofs.starts.begin_all.Tie as tie
 
 abbrev Inv-loop : tie.InvT-loop
 Inv-loop table offsets first starts₀ m i₀ starts i = ((1 ≤ i) × (i ≤ m)) × Begun table offsets starts

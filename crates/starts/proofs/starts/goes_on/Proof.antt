@@ -1,6 +1,6 @@
 use borrow.Author.Needs.{needs}
-use Rattle.cursors.proofs.starts.goes_on.Statement.{statement}
-use Rattle.cursors.proofs.starts.goes_on.Tie as tie
+use Rattle.starts.proofs.starts.goes_on.Statement.{statement}
+use Rattle.starts.proofs.starts.goes_on.Tie as tie
 
 pub goes-on-spec : {M : Type 1} → statement M
 goes-on-spec =

@@ -1,7 +1,7 @@
 use Rattle.contexts.specs.PathRules.{tableReference, joined}
 use borrow.Author.Needs.{needs}
-use Rattle.contexts.proofs.path_rules.join_context.Statement.{statement}
-use Rattle.contexts.proofs.path_rules.join_context.Tie as tie
+use Rattle.path_rules.proofs.rules.join_context.Statement.{statement}
+use Rattle.path_rules.proofs.rules.join_context.Tie as tie
 
 pub join-context-spec : {M : Type 1} → statement M
 unfolding tableReference joined

@@ -1,9 +1,9 @@
 use Rattle.contexts.specs.PathRules.{pathRules}
 use Rattle.contexts.specs.inner.ByNumber.{gives, givenBy}
 use borrow.Author.Tests.{ne-eqb}
 use borrow.Author.Needs.{needs}
-use Rattle.contexts.proofs.path_rules.rule_context.Statement.{statement}
-use Rattle.contexts.proofs.path_rules.rule_context.Tie as tie
+use Rattle.path_rules.proofs.rules.rule_context.Statement.{statement}
+use Rattle.path_rules.proofs.rules.rule_context.Tie as tie
 
 pub rule-context-spec : {M : Type 1} → statement M
 unfolding gives givenBy pathRules
