@@ -1,5 +1,6 @@
 // What the rules of the path's nodes give.
 use contexts::context::CursorContext;
+use function_name::function_name::extract_function_name;
 use path::rules::CODEC_RULE;
 use path::rules::COLUMN_RULE;
 use path::rules::DEFINITION_RULE;
@@ -13,7 +14,6 @@ use path::rules::SETTINGS_RULE;
 use path::rules::START_RULE;
 use path::rules::TYPE_RULE;
 use readings::function::count_commas_before;
-use readings::function::extract_function_name;
 use readings::last_token::token_before_offset;
 use records::kinds::SELECT_CLAUSE;
 use records::record::kind_at;

@@ -1,11 +1,11 @@
-use Rattle.readings.proofs.Functions.{naming-none, naming-some, named-in}
+use Rattle.function_name.proofs.Functions.{naming-none, naming-some, named-in}
 use Rattle.tokens.specs.inner.Turns.{namingOf}
 use Rattle.tokens.specs.declared.function.Naming.the-variants.{Is}
 use borrow.Author.Tests.{eq-eqb, ne-eqb}
 use mathlib.Core.Path.{ap}
 use borrow.Author.Needs.{needs}
-use Rattle.readings.proofs.function.name_at.Statement.{statement}
-use Rattle.readings.proofs.function.name_at.Tie as tie
+use Rattle.function_name.proofs.function_name.name_at.Statement.{statement}
+use Rattle.function_name.proofs.function_name.name_at.Tie as tie
 
 pub name-at-spec : {M : Type 1} → statement M
 unfolding namingOf

@@ -1,7 +1,7 @@
 use Rattle.tokens.specs.inner.Turns.{countsFor}
 use borrow.Author.Needs.{needs}
-use Rattle.tokens.proofs.turns.counts.Statement.{statement}
-use Rattle.tokens.proofs.turns.counts.Tie as tie
+use Rattle.turns.proofs.turns.counts.Statement.{statement}
+use Rattle.turns.proofs.turns.counts.Tie as tie
 
 pub counts-spec : {M : Type 1} → statement M
 unfolding countsFor

@@ -1,9 +1,9 @@
 use Rattle.tokens.specs.inner.Turns.{movedTo}
 use borrow.Author.Tests.{not-true, not-false}
 use borrow.Author.Needs.{needs}
 use native.Mathlib.Omega.{arith}
-use Rattle.tokens.proofs.turns.turn.Statement.{statement}
-use Rattle.tokens.proofs.turns.turn.Tie as tie
+use Rattle.turns.proofs.turns.turn.Statement.{statement}
+use Rattle.turns.proofs.turns.turn.Tie as tie
 
 pub turn-spec : {M : Type 1} → statement M
 unfolding movedTo

@@ -1,10 +1,10 @@
-use Rattle.readings.proofs.Functions.{bare-here, bare-next}
+use Rattle.function_name.proofs.Functions.{bare-here, bare-next}
 use Rattle.forest.proofs.Walking.{Walks, walks-none, walks-start, walks-end}
 use Rattle.tokens.specs.Function.{bareWordIn}
 use Prim.Native.Nat.{_-_, _≤_}
 use native.Mathlib.Omega.{arith}
-use Rattle.readings.proofs.function.first_bare_word.Statement.{statement}
-use Rattle.readings.proofs.function.first_bare_word.Tie as tie
+use Rattle.function_name.proofs.function_name.first_bare_word.Statement.{statement}
+use Rattle.function_name.proofs.function_name.first_bare_word.Tie as tie
 
 abbrev Inv-loop : tie.InvT-loop
 Inv-loop s m i₀ i = ((1 ≤ i) × (i ≤ m)) × Walks s i bareWordIn bareWordIn

@@ -1,11 +1,11 @@
-use Rattle.readings.proofs.Functions.{name-here, name-next}
+use Rattle.function_name.proofs.Functions.{name-here, name-next}
 use Rattle.forest.proofs.Walking.{Walks, walks-none, walks-start, walks-end}
 use Rattle.tokens.specs.Function.{functionName}
 use borrow.Author.Needs.{needs}
 use Prim.Native.Nat.{_-_, _≤_}
 use native.Mathlib.Omega.{arith}
-use Rattle.readings.proofs.function.extract_function_name.Statement.{statement}
-use Rattle.readings.proofs.function.extract_function_name.Tie as tie
+use Rattle.function_name.proofs.function_name.extract_function_name.Statement.{statement}
+use Rattle.function_name.proofs.function_name.extract_function_name.Tie as tie
 
 abbrev Inv-loop : tie.InvT-loop
 Inv-loop s m i₀ i = ((1 ≤ i) × (i ≤ m)) × Walks s i functionName functionName

@@ -1,7 +1,7 @@
 use Rattle.tokens.specs.inner.Turns.{entersFor}
 use borrow.Author.Needs.{needs}
-use Rattle.tokens.proofs.turns.enters.Statement.{statement}
-use Rattle.tokens.proofs.turns.enters.Tie as tie
+use Rattle.turns.proofs.turns.enters.Statement.{statement}
+use Rattle.turns.proofs.turns.enters.Tie as tie
 
 pub enters-spec : {M : Type 1} → statement M
 unfolding entersFor

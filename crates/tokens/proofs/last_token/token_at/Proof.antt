@@ -1,7 +1,7 @@
 use Rattle.tokens.specs.inner.Turns.{nameAt}
 use borrow.Author.Needs.{needs}
-use Rattle.readings.proofs.function.token_at.Statement.{statement}
-use Rattle.readings.proofs.function.token_at.Tie as tie
+use Rattle.tokens.proofs.last_token.token_at.Statement.{statement}
+use Rattle.tokens.proofs.last_token.token_at.Tie as tie
 
 pub token-at-spec : {M : Type 1} → statement M
 unfolding nameAt

@@ -1,9 +1,9 @@
 use native.Mathlib.Omega.{arith}
 use Rattle.tokens.specs.Function.{argued}
 use borrow.Author.Tests.{eq-eqb, ne-eqb}
 use borrow.Author.Needs.{needs}
-use Rattle.tokens.proofs.turns.argue.Statement.{statement}
-use Rattle.tokens.proofs.turns.argue.Tie as tie
+use Rattle.turns.proofs.turns.argue.Statement.{statement}
+use Rattle.turns.proofs.turns.argue.Tie as tie
 
 pub argue-spec : {M : Type 1} → statement M
 unfolding argued
