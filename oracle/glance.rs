@@ -143,9 +143,9 @@ impl Program<'_> {
         Err(format!("glance prints\n{}and by the Rust it is\n{}for the input\n{}", show(&ours), show(&expected), show(input)))
     }
 
-    /// The inputs that are made by hand.
-    pub fn by_hand(&self, tally: &mut Tally) -> Result<(), String> {
-        for (sort, input) in inputs(0, 1).iter().filter(|_| self.asks(0)) {
+    /// A part's share of the inputs that are made by hand: every so many, since the large ones stand together.
+    pub fn by_hand(&self, part: usize, parts: usize, tally: &mut Tally) -> Result<(), String> {
+        for (sort, input) in inputs(0, 1).iter().skip(part - 1).step_by(parts).filter(|_| self.asks(0)) {
             self.agrees(input).map_err(|why| format!("{sort}: {why}"))?;
             tally.glanced += 1;
         }

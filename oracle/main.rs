@@ -1,5 +1,5 @@
 //! The comparison with the Rust.
-//!   oracle compare FRAMES SEED FLIP EVERY GLANCE..          compares; exit 1 at a difference. FRAMES is how many, or FROM-TO for a part of a run.
+//!   oracle compare FRAMES SEED FLIP EVERY GLANCE..          compares; exit 1 at a difference. FRAMES is how many, or FRAMES:PART/PARTS for a part of a run.
 //!                                                           FLIP falsifies one of our answers (`oracle answers` says how many there are; 0 none).
 //!                                                           GLANCE.. is the program with its words, asked for one frame in EVERY
 //!   oracle listed                                           asks both sides the frames of the listed differences
@@ -43,21 +43,20 @@ fn sort_of(i: usize) -> Sort {
     }
 }
 
-fn compare(frames: std::ops::Range<usize>, seed: u64, glance: Program) -> bool {
+fn compare(run: Part, seed: u64, glance: Program) -> bool {
     let mut agreed = [0; SORTS.len()];
     let mut tally = Tally::default();
-    // what is made by hand is asked once a run, with its first frame
-    if frames.start == 0 {
+    if run.part == 1 {
         if !listed::listed(false) {
             return false;
         }
         println!("the listed differences are as listed");
-        if let Err(why) = glance.by_hand(&mut tally) {
-            println!("{why}");
-            return false;
-        }
     }
-    for i in frames {
+    if let Err(why) = glance.by_hand(run.part, run.parts, &mut tally) {
+        println!("{why}");
+        return false;
+    }
+    for i in run.frames() {
         let sort = sort_of(i);
         let mut s = Seed((seed << 32 | i as u64).wrapping_mul(0x9E3779B97F4A7C15) | 1);
         let f = frame(sort, &mut s);
@@ -85,14 +84,30 @@ fn compare(frames: std::ops::Range<usize>, seed: u64, glance: Program) -> bool {
     println!("the Rust stopped at a lone quote mark {} times; {} frames are no text, and were asked with a mark for each byte over 127", tally.stopped, tally.no_text);
     println!("refusals by number: {:?}", &tally.refused[1..]);
     println!("contexts by number: {:?}", tally.contexts);
-    if glance.asks(0) { println!("{} inputs agreed through glance, one for each {} of these frames and, with the first of them, those made by hand", tally.glanced, glance.every) }
+    if glance.asks(0) { println!("{} inputs agreed through glance, one for each {} of these frames and one in {} of those made by hand", tally.glanced, glance.every, run.parts) }
     true
 }
 
-/// `FRAMES`, or a part of a run: `FROM-TO`, the last not counted.
-fn part(frames: &str) -> std::ops::Range<usize> {
-    let number = |a: &str| a.parse().expect("a number");
-    frames.split_once('-').map_or_else(|| 0..number(frames), |(from, to)| number(from)..number(to))
+/// A part of a run, counted from 1: its share of the frames, and of the inputs made by hand.
+struct Part {
+    all: usize,
+    part: usize,
+    parts: usize,
+}
+
+impl Part {
+    /// `FRAMES`, or `FRAMES:PART/PARTS`.
+    fn of(words: &str) -> Part {
+        let number = |a: &str| a.parse().expect("a number");
+        match words.split_once(':').and_then(|(all, of)| Some((all, of.split_once('/')?))) {
+            Some((all, (part, parts))) => Part { all: number(all), part: number(part), parts: number(parts) },
+            None => Part { all: number(words), part: 1, parts: 1 },
+        }
+    }
+
+    fn frames(&self) -> std::ops::Range<usize> {
+        self.all * (self.part - 1) / self.parts..self.all * self.part / self.parts
+    }
 }
 
 fn main() {
@@ -105,7 +120,7 @@ fn main() {
             let flip = number(3, 0);
             assert!(flip <= FLIPS, "no such answer");
             FLIP.store(flip, Ordering::Relaxed);
-            compare(part(args.get(1).map_or("2000", |a| a)), number(2, 1) as u64, Program { words: args.get(5..).unwrap_or(&[]), every: number(4, 1) })
+            compare(Part::of(args.get(1).map_or("2000", |a| a)), number(2, 1) as u64, Program { words: args.get(5..).unwrap_or(&[]), every: number(4, 1) })
         }
         Some("answers") => {
             println!("{FLIPS}");

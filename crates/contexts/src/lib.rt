@@ -1,4 +1,3 @@
-// The contexts, their numbers, and the rules that give them: the trailing rule and the path rules.
+// The contexts, their numbers, and the trailing rule.
 pub mod context;
-pub mod path_rules;
 pub mod trailing;

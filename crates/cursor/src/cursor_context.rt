@@ -2,7 +2,6 @@
 use contexts::context::Answer;
 use contexts::context::ContextReply;
 use contexts::context::CursorContext;
-use contexts::path_rules::rule_context;
 use contexts::trailing::check_trailing_clause;
 use descent::descent::find_node_path;
 use descent::descent::path_from;
@@ -11,6 +10,7 @@ use lent::text::text_of;
 use lent::verdict::Verdict;
 use path::gathered::Gathered;
 use path::rules::NO_RULE;
+use path_rules::rules::rule_context;
 use readings::last_token::token_before_offset;
 use records::kinds::FILE;
 use records::record::kind_at;

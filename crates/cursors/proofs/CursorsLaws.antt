@@ -30,7 +30,7 @@ use Rattle.contexts.specs.declared.context.Coded.{Coded}
 use Rattle.contexts.specs.Context.{coded, contextRow}
 use Rattle.cursor.specs.CursorContext.{contextAt}
 use Rattle.cursors.specs.Cursors.{offsetsFrom, offsetsOf, contextsAt}
-use Rattle.cursors.specs.inner.Ready.{Ready}
+use Rattle.starts.specs.inner.Ready.{Ready}
 
 -- how many bytes an entry takes
 abbrev entryBytes : ℕ

@@ -1,2 +1,1 @@
-pub mod BegunLaws
 pub mod CursorsLaws

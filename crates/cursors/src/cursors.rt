@@ -1,5 +1,4 @@
 // The contexts at all cursors of a shared page (document 02, §2): one call, one check, and record 0's children read once for all.
-use crate::starts::begin_all;
 use conditions::whole::MOST_OFFSETS;
 use conditions::whole::OFFSET_BYTES;
 use contexts::context::code_of;
@@ -11,6 +10,7 @@ use lent::number::NUMBER_BYTES;
 use lent::number::word_at;
 use lent::verdict::NO_ROOM;
 use lent::verdict::Verdict;
+use starts::starts::begin_all;
 use table::check::check_offsets;
 ghost use mathlib.Core.List.{[]};
 ghost use lib.ListN.{length};
@@ -18,7 +18,7 @@ ghost use Rattle.table.specs.Rules.{offsetRules};
 ghost use Rattle.lent.specs.Lists.{Written, Answers};
 ghost use Rattle.contexts.specs.Context.{contextRow};
 ghost use Rattle.cursors.specs.Cursors.{contextsAt};
-ghost use Rattle.cursors.specs.inner.Ready.{Ready};
+ghost use Rattle.starts.specs.inner.Ready.{Ready};
 
 // How many bytes a context's entry takes.
 const CONTEXT_BYTES: usize = 4 * NUMBER_BYTES;

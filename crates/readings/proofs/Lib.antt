@@ -1,3 +1,2 @@
 pub mod Early
-pub mod Functions
 pub mod Sweeping

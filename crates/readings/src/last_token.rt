@@ -1,8 +1,8 @@
 // The last token at an offset.
-use crate::function::token_at;
 use crate::sweep::sweep;
 use tokens::last_token::LastTwo;
 use tokens::last_token::Name;
+use tokens::last_token::token_at;
 use tokens::turns::Sought;
 ghost use mathlib.Core.Path.{_≡_};
 ghost use Prim.Native.Nat.{ℕ, _-_, _≤_};

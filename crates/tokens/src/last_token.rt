@@ -2,10 +2,15 @@
 use lent::text::says;
 use lent::text::text_of;
 use records::range::Range;
+use records::record::end_at;
+use records::record::start_at;
 ghost use mathlib.Core.Path.{_≡_};
 ghost use mathlib.Core.List.{[], _∷_};
+ghost use Prim.Native.Nat.{_<_};
 ghost use Rattle.lent.specs.Text.{same};
+ghost use Rattle.records.specs.Table.{count};
 ghost use Rattle.tokens.specs.LastToken.{isText, isWord, dotted, isJoinWord};
+ghost use Rattle.tokens.specs.inner.Turns.{nameAt};
 
 // A name's range, or none.
 pub enum Name {
@@ -17,6 +22,17 @@ pub enum Name {
 pub struct LastTwo {
     pub last: Name,
     pub before: Name,
+}
+
+// The range of record i, as a name.
+pub fn token_at(s: &[u8], i: usize) -> Name
+    requires { ⌜ i < count (now s) ⌝ }
+    ensures { λ r. ⌜ r ≡ nameAt (now (s .entry)) i ⌝ }
+{
+    Name::Named(Range {
+        start: start_at(s, i),
+        end: end_at(s, i),
+    })
 }
 
 // The text is this one byte.

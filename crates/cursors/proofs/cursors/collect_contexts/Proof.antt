@@ -1,6 +1,6 @@
 use Rattle.cursors.proofs.CursorsLaws.{Taking, taking-start, taking-step, taking-end}
-use Rattle.cursors.proofs.BegunLaws.{begun-first}
-use Rattle.cursors.specs.inner.Ready.{Begun}
+use Rattle.starts.proofs.BegunLaws.{begun-first}
+use Rattle.starts.specs.inner.Ready.{Begun}
 use Rattle.contexts.specs.Context.{coded}
 use Rattle.conditions.specs.Conditions.{offsetBytes}
 use lib.ListN.{length}
