@@ -1,3 +1,5 @@
 pub mod Clauses
 pub mod Coded
 pub mod Columns
+pub mod Fitting
+pub mod Given

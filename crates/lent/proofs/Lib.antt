@@ -1,4 +1,5 @@
 pub mod Cases
+pub mod Fit32
 pub mod Texts
 pub mod Verdicts
 pub mod Writes

@@ -3,14 +3,14 @@
 --     Rest                        a loop's invariant: what is still to be written
 --     decimal-small, ..           a number is the digits of its tenth, and its last
 --     fields-turn, ranges-turn    the numbers and the ranges of an entry, one after another
---     printed-are                 what is read back from a list's bytes is the list
+--     printed-are                 what is read back from a list's bytes is the list, where its numbers fit
 -- Assumes nothing.
 use Prim.Native.Nat.{ℕ, zero, suc, _+_, _-_, _*_, _/_, _%_, _^_, _≤_, _<_}
 use mathlib.Core.Path.{_≡_, refl, ap, _∙_}
 use mathlib.Core.Bool.{Bool, true, false, _&&_}
 use mathlib.Core.List.{List, [], _∷_, _++_, map, append-assoc}
 use native.Mathlib.Omega.{arith}
-use native.Mathlib.Nat.{pow-suc, add-assoc, suc-mul, zero-add, div-div-eq-div-mul, mod-eq-of-lt}
+use native.Mathlib.Nat.{pow-suc, add-assoc, suc-mul, zero-add}
 use borrow.Author.Tests.{lt-ltb, le-ltb, ltb-true, ltb-false}
 use lib.Dec.{ltb, eqb}
 use lib.ListN.{length, take, drop, length-append}
@@ -18,9 +18,11 @@ use lib.Seq.{sets, length-sets, sets-eq, getD-append-add}
 use Rattle.lent.specs.Numbers.{word, numberBytes, le4}
 use Rattle.lent.specs.Lists.{rowBytes, listBytes}
 use Rattle.lent.proofs.Writes.{length-row, sets-append}
+use Rattle.lent.specs.Fit32.{Fit32, AllFit32}
+use Rattle.lent.proofs.Fit32.{word-back}
 use Rattle.lent.specs.Text.{bytesOf}
 use Rattle.lines.specs.Lines.{mostLines}
-use Rattle.report.specs.Output.{digits, decimal, field, range, fields, ranges, held, printed, printedList}
+use Rattle.report.specs.Output.{digits, decimal, field, range, fields, ranges, printed, printedList}
 use Rattle.report.specs.inner.Writing.{Put, words, printedWords, lineRoom, mostReferences, textRoom}
 
 pub put-then : {xs ys a b c : List ℕ} {n m l : ℕ} → Put xs a n b m → Put ys b m c l → Put (xs ++ ys) a n c l
@@ -95,9 +97,6 @@ decimal-length (suc n) v h = go (ltb v 10) refl (λ q. decimal-length n (v / 10)
 pub decimal-short : (v : ℕ) → v < 4294967296 → length (decimal v) ≤ 10
 decimal-short v h = decimal-length 9 v (omega arith)
 
-pub held-small : (v : ℕ) → v < 4294967296 → held v ≡ v
-held-small v h = mod-eq-of-lt h
-
 -- ---- ranges
 
 pub range-absent : (s e : ℕ) → (eqb s 4294967295 && eqb e 4294967295) ≡ true → range s e ≡ bytesOf " - -"
@@ -169,22 +168,6 @@ lists-none letter n w l from k e = rw e
 
 -- ---- a list's bytes, read back
 
--- two bytes, and two halves, of a number
-low : (x : ℕ) → x % 256 + x / 256 % 256 * 256 ≡ x % 65536
-low x = omega arith
-
-whole : (x : ℕ) → x % 65536 + x / 65536 % 65536 * 65536 ≡ x % 4294967296
-whole x = omega arith
-
-joined : (a b c d l h r : ℕ) → a + b * 256 ≡ l → c + d * 256 ≡ h → l + h * 65536 ≡ r → a + b * 256 + c * 65536 + d * 16777216 ≡ r
-joined a b c d l h r p q s = omega arith
-
-word-held : (v : ℕ) (rest : List ℕ) → word (le4 v ++ rest) 0 ≡ held v
-unfolding word
-word-held v rest =
-    joined (v % 256) (v / 256 % 256) (v / 65536 % 256) (v / 16777216 % 256) (v % 65536) (v / 65536 % 65536) (v % 4294967296)
-    (low v) (rw (← div-div-eq-div-mul v 65536 256) (low (v / 65536))) (whole v)
-
 word-shift : (xs ys : List ℕ) (at : ℕ) → word (xs ++ ys) (length xs + at) ≡ word ys at
 unfolding word
 word-shift xs ys at =
@@ -195,10 +178,11 @@ unfolding words
 words-shift xs ys at zero = refl
 words-shift xs ys at (suc n) = rw (word-shift xs ys at, add-assoc (length xs) at 4, words-shift xs ys (at + 4) n)
 
-words-row : (vs rest : List ℕ) → words (rowBytes vs ++ rest) 0 (length vs) ≡ map held vs
-unfolding words rowBytes
-words-row [] rest = refl
-words-row (v ∷ vs) rest = rw (append-assoc (le4 v) (rowBytes vs) rest, word-held v (rowBytes vs ++ rest), words-shift (le4 v) (rowBytes vs ++ rest) 0 (length vs), words-row vs rest)
+words-row : (vs rest : List ℕ) → Fit32 vs → words (rowBytes vs ++ rest) 0 (length vs) ≡ vs
+unfolding words rowBytes Fit32
+words-row [] rest h = refl
+words-row (v ∷ vs) rest h =
+    rw (append-assoc (le4 v) (rowBytes vs) rest, word-back v (rowBytes vs ++ rest) (h .0), words-shift (le4 v) (rowBytes vs ++ rest) 0 (length vs), words-row vs rest (h .1))
 
 module _ (letter n w : ℕ) where
   printed-shift : (xs ys : List ℕ) (at k : ℕ) → printedWords letter n w (xs ++ ys) (length xs + at) k ≡ printedWords letter n w ys at k
@@ -207,10 +191,10 @@ module _ (letter n w : ℕ) where
   printed-shift xs ys at (suc k) = rw (words-shift xs ys at w, add-assoc (length xs) at (numberBytes * w), printed-shift xs ys (at + numberBytes * w) k)
 
   module _ {E : Type 0} (row : E → List ℕ) (wide : (e : E) → length (row e) ≡ w) where
-    pub printed-are : (es : List E) (rest : List ℕ) → printedWords letter n w (listBytes row es ++ rest) 0 (length es) ≡ printedList letter n (map row es)
-    unfolding printedWords printedList listBytes
-    printed-are [] rest = refl
-    printed-are (e ∷ es) rest =
+    pub printed-are : (es : List E) (rest : List ℕ) → AllFit32 row es → printedWords letter n w (listBytes row es ++ rest) 0 (length es) ≡ printedList letter n (map row es)
+    unfolding printedWords printedList listBytes AllFit32
+    printed-are [] rest h = refl
+    printed-are (e ∷ es) rest h =
         let a : 0 + numberBytes * w ≡ length (rowBytes (row e)) + 0 = omega (arith, length-row (row e), wide e) in
-        let f : words (rowBytes (row e) ++ (listBytes row es ++ rest)) 0 w ≡ map held (row e) = rw (← wide e) (words-row (row e) (listBytes row es ++ rest)) in
-        rw (append-assoc (rowBytes (row e)) (listBytes row es) rest, a, f, printed-shift (rowBytes (row e)) (listBytes row es ++ rest) 0 (length es), printed-are es rest)
+        let f : words (rowBytes (row e) ++ (listBytes row es ++ rest)) 0 w ≡ row e = rw (← wide e) (words-row (row e) (listBytes row es ++ rest) (h .0)) in
+        rw (append-assoc (rowBytes (row e)) (listBytes row es) rest, a, f, printed-shift (rowBytes (row e)) (listBytes row es ++ rest) 0 (length es), printed-are es rest (h .1))

@@ -23,7 +23,6 @@ use Rattle.contexts.specs.declared.context.CursorContext.{CursorContext}
 use Rattle.cursor.specs.CursorContext.{contextAt}
 use Rattle.contexts.specs.Context.{coded}
 use Rattle.lines.specs.Lines.{lf}
-use Rattle.lent.specs.Numbers.{wordLimit}
 use Rattle.table.specs.Ranges.{absentNumber}
 
 -- ---- the bytes that stand for themselves: a space, and the letters that begin the lines
@@ -80,10 +79,6 @@ ranges [] = []
 ranges (s ∷ []) = []
 ranges (s ∷ e ∷ vs) = range s e ++ ranges vs
 
--- what the 32 bits of a number hold
-abbrev pub held : ℕ → ℕ
-held v = v % wordLimit
-
 -- ---- the lines
 
 -- a line: its letter, its first n numbers, and ranges
@@ -93,17 +88,17 @@ printed letter n vs = letter ∷ fields (take n vs) ++ ranges (drop n vs) ++ lf 
 -- a list, a line for each entry
 unfoldable pub printedList : ℕ → ℕ → List (List ℕ) → List ℕ
 printedList letter n [] = []
-printedList letter n (r ∷ rs) = printed letter n (map held r) ++ printedList letter n rs
+printedList letter n (r ∷ rs) = printed letter n r ++ printedList letter n rs
 
 -- C: context, name range, argument index
 unfoldable pub contextLine : CursorContext → List ℕ
 contextLine c =
-    letterC ∷ field (held (coded c .number)) ++ range (held (coded c .name .start)) (held (coded c .name .end)) ++ field (held (coded c .index)) ++ lf ∷ []
+    letterC ∷ field (coded c .number) ++ range (coded c .name .start) (coded c .name .end) ++ field (coded c .index) ++ lf ∷ []
 
 -- S: statement record or `-`
 unfoldable pub statementLine : Enclosing → List ℕ
 statementLine Outside = bytesOf "S -" ++ lf ∷ []
-statementLine (Record n) = letterS ∷ field (held n) ++ lf ∷ []
+statementLine (Record n) = letterS ∷ field n ++ lf ∷ []
 
 -- T: references of record 0, a line each, fields as in the entry
 abbrev pub referenceLines : List ℕ → List ℕ → List ℕ

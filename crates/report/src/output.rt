@@ -6,7 +6,6 @@ use contexts::context::code_of;
 use cursor::cursor_context::cursor_context;
 use lent::list::Listed;
 use lent::number::NUMBER_BYTES;
-use lent::number::WORD_LIMIT;
 use lent::number::word_at;
 use lines::input::MOST_LINES;
 use scope::scope::table_refs;
@@ -23,6 +22,8 @@ ghost use Rattle.lent.specs.declared.verdict.Verdict.the-variants.{Admitted};
 ghost use Rattle.table.specs.Rules.{verdict};
 ghost use Rattle.table.specs.Table.{count};
 ghost use Rattle.lent.specs.Numbers.{wordLimit, numberBytes};
+ghost use Rattle.lent.specs.Fit32.{Fit32};
+ghost use Rattle.contexts.specs.Context.{contextRow};
 ghost use Rattle.cursor.specs.CursorContext.{contextAt};
 ghost use Rattle.statement.specs.declared.statement.Enclosing.the-variants.{Record};
 ghost use Rattle.tables.specs.Tables.{referenceBytes};
@@ -185,15 +186,15 @@ fn put_list(
 
 // Writes the line of a context.
 fn put_code(out: &mut [u8], at: usize, c: CursorContext) -> usize
-    requires { ⌜ at + lineRoom ≤ length (now out) ⌝ }
+    requires { ⌜ Fit32 (contextRow c) × (at + lineRoom ≤ length (now out)) ⌝ }
     ensures { λ r. ⌜ Put (contextLine c) (now (out .entry)) at (now (out .exit)) r × (r ≤ at + lineRoom) ⌝ }
 {
     let k = code_of(c);
     let name = k.name;
     let first = put_byte(out, at, b'C');
-    let second = put_field(out, first, k.number % WORD_LIMIT);
-    let third = put_range(out, second, name.start % WORD_LIMIT, name.end % WORD_LIMIT);
-    let fourth = put_field(out, third, k.index % WORD_LIMIT);
+    let second = put_field(out, first, k.number);
+    let third = put_range(out, second, name.start, name.end);
+    let fourth = put_field(out, third, k.index);
     put_byte(out, fourth, b'\n')
 }
 

@@ -1,5 +1,5 @@
 use Rattle.report.specs.Output.{statementLine}
-use Rattle.report.proofs.Writing.{put-then, held-small}
+use Rattle.report.proofs.Writing.{put-then}
 use native.Mathlib.Omega.{arith}
 use borrow.Author.Needs.{needs}
 use Rattle.report.proofs.output.put_found.Statement.{statement}
@@ -14,4 +14,4 @@ put-found-spec =
     (λ c κs. search needs)  -- put-field-requires
     (λ c κs. search needs)  -- put-byte-requires-2
     (λ c. search needs)  -- same-length
-    (λ c. let a = c .before .before .before .before .before .before .before .before .before .before .before .before .before .args in (rw (held-small (a .found) (omega arith)) (put-then (c .before .before .before .before .before .before .before .before .before .before .put-byte .ensures) (put-then (c .before .before .before .before .before .before .put-field .ensures .0) (c .before .before .put-byte2 .ensures))), omega arith)))  -- returns
+    (λ c. (put-then (c .before .before .before .before .before .before .before .before .before .before .put-byte .ensures) (put-then (c .before .before .before .before .before .before .put-field .ensures .0) (c .before .before .put-byte2 .ensures)), omega arith)))  -- returns
