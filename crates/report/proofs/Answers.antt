@@ -39,9 +39,12 @@ use Rattle.scope.specs.Classes.{entryWith, entryOf, classes, classesOf}
 use Rattle.brackets.specs.Brackets.{isOpener, isCloser, fits, closed, stackStep, left, stackLeft, indexOf, openersLeft}
 use Rattle.tables.specs.Tables.{referenceBytes, referenceRow}
 use Rattle.scope.specs.Scope.{tableRefs}
-use Rattle.report.specs.Output.{letterT, printedList, answeredBy, answerText, refusalLine, referenceRoom, questionVerdict, unlessRefused, replied}
-use Rattle.report.specs.inner.Writing.{printedWords, entryCount, mostReferences}
-use Rattle.report.proofs.Writing.{printed-are}
+use Rattle.print.specs.Printed.{letterT, printedList, refusalLine}
+use Rattle.report.specs.Output.{answeredBy, answerText, referenceRoom, questionVerdict, unlessRefused, replied}
+use Rattle.report.specs.inner.Room.{entryCount, mostReferences, textRoom}
+use Rattle.lines.specs.Lines.{mostLines}
+use Rattle.print.specs.inner.Writing.{printedWords, lineRoom}
+use Rattle.print.proofs.Writing.{printed-are}
 use Rattle.lent.specs.Fit32.{AllFit32}
 use Rattle.scope.proofs.Fitting.{references-fit}
 
@@ -171,6 +174,13 @@ module _ (src t out : List ℕ) (z : length out ≡ referenceRoom) where
           omega (arith, g .2, z),
           λ o. rw (← (a ∙ same-verdict), g .3 letterT 1),
         )
+
+-- ---- the room of an answer
+
+-- an answer has room: a line for the context and the statement, one for each of n references, and one for each token and opener
+pub answer-room : (n : ℕ) {r₁ r₂ r₃ r₄ r₅ : ℕ} → n ≤ mostReferences → r₁ ≤ 0 + lineRoom → r₂ ≤ r₁ + lineRoom → r₃ ≤ r₂ + lineRoom * n
+    → r₄ ≤ r₃ + lineRoom * mostLines → r₅ ≤ r₄ + lineRoom * mostLines → r₅ + 2 ≤ textRoom
+answer-room n h a b c d e = omega arith
 
 -- ---- how many entries
 

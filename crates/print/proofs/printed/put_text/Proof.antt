@@ -1,12 +1,12 @@
 use Rattle.lines.proofs.Reading.{cut, past}
-use Rattle.report.proofs.Writing.{Rest, rest-start, rest-turn, rest-end}
+use Rattle.print.proofs.Writing.{Rest, rest-start, rest-turn, rest-end}
 use lib.ListN.{length, getD, drop, length-set}
 use mathlib.Core.Path.{_≡_, refl}
 use mathlib.Core.List.{[], _∷_}
 use Prim.Native.Nat.{_+_, _-_, _≤_}
 use native.Mathlib.Omega.{arith}
-use Rattle.report.proofs.output.put_text.Statement.{statement}
-use Rattle.report.proofs.output.put_text.Tie as tie
+use Rattle.print.proofs.printed.put_text.Statement.{statement}
+use Rattle.print.proofs.printed.put_text.Tie as tie
 
 abbrev Inv-loop : tie.InvT-loop
 Inv-loop out₀ at text i₀ out i = ((i ≤ length text) × (length out ≡ length out₀)) × Rest (drop i text) out (at + i) text out₀ at

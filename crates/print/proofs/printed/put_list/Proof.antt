@@ -1,11 +1,11 @@
-use Rattle.report.specs.inner.Writing.{printedWords}
-use Rattle.report.proofs.Writing.{Rest, rest-start, rest-turn, rest-end, entries-more, lists-turn, lists-none}
+use Rattle.print.specs.inner.Writing.{printedWords}
+use Rattle.print.proofs.Writing.{Rest, rest-start, rest-turn, rest-end, entries-more, lists-turn, lists-none}
 use lib.ListN.{length}
 use mathlib.Core.Path.{_≡_, refl}
 use Prim.Native.Nat.{_+_, _*_, _≤_}
 use native.Mathlib.Omega.{arith}
-use Rattle.report.proofs.output.put_list.Statement.{statement}
-use Rattle.report.proofs.output.put_list.Tie as tie
+use Rattle.print.proofs.printed.put_list.Statement.{statement}
+use Rattle.print.proofs.printed.put_list.Tie as tie
 
 abbrev Inv-loop : tie.InvT-loop
 Inv-loop out₀ at letter list k n m width next₀ from₀ left₀ out next from left =

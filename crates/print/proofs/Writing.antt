@@ -21,9 +21,8 @@ use Rattle.lent.proofs.Writes.{length-row, sets-append}
 use Rattle.lent.specs.Fit32.{Fit32, AllFit32}
 use Rattle.lent.proofs.Fit32.{word-back}
 use Rattle.lent.specs.Text.{bytesOf}
-use Rattle.lines.specs.Lines.{mostLines}
-use Rattle.report.specs.Output.{digits, decimal, field, range, fields, ranges, printed, printedList}
-use Rattle.report.specs.inner.Writing.{Put, words, printedWords, lineRoom, mostReferences, textRoom}
+use Rattle.print.specs.Printed.{digits, decimal, field, range, fields, ranges, printed, printedList}
+use Rattle.print.specs.inner.Writing.{Put, words, printedWords}
 
 pub put-then : {xs ys a b c : List ℕ} {n m l : ℕ} → Put xs a n b m → Put ys b m c l → Put (xs ++ ys) a n c l
 put-then {xs} {ys} {a} {b} {c} {n} {m} {l} p q =
@@ -37,11 +36,6 @@ pub put-front : (xs out : List ℕ) {out′ : List ℕ} {r : ℕ} → Put xs out
 put-front xs out {out′} {r} p h =
     let n : r ≡ length xs = omega (arith, p .next) in
     (n, p .bytes ∙ sets-eq xs out 0 (omega arith) ∙ rw (zero-add (length xs)), omega (arith, ap length (p .bytes), length-sets out 0 xs))
-
--- an answer has room: a line for the context and the statement, one for each of n references, and one for each token and opener
-pub answer-room : (n : ℕ) {r₁ r₂ r₃ r₄ r₅ : ℕ} → n ≤ mostReferences → r₁ ≤ 0 + lineRoom → r₂ ≤ r₁ + lineRoom → r₃ ≤ r₂ + lineRoom * n
-    → r₄ ≤ r₃ + lineRoom * mostLines → r₅ ≤ r₄ + lineRoom * mostLines → r₅ + 2 ≤ textRoom
-answer-room n h a b c d e = omega arith
 
 -- ---- what is still to be written: xs from byte at′ of out′ on, which makes ys from byte `at` of out on
 pub record Rest (xs out′ : List ℕ) (at′ : ℕ) (ys out : List ℕ) (at : ℕ) : Type 0 where

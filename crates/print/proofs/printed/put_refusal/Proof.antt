@@ -1,8 +1,8 @@
-use Rattle.report.proofs.Writing.{put-then}
+use Rattle.print.proofs.Writing.{put-then}
 use native.Mathlib.Omega.{arith}
 use borrow.Author.Needs.{needs}
-use Rattle.report.proofs.output.put_refusal.Statement.{statement}
-use Rattle.report.proofs.output.put_refusal.Tie as tie
+use Rattle.print.proofs.printed.put_refusal.Statement.{statement}
+use Rattle.print.proofs.printed.put_refusal.Tie as tie
 
 pub put-refusal-spec : {M : Type 1} → statement M
 put-refusal-spec =

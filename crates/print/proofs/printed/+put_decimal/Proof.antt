@@ -1,15 +1,15 @@
-use Rattle.report.proofs.Writing.{put-then, decimal-small, decimal-large, decimal-length}
+use Rattle.print.proofs.Writing.{put-then, decimal-small, decimal-large, decimal-length}
 use borrow.Author.Needs.{needs}
 use Prim.Native.Nat.{ℕ, _/_, _<_}
 use native.Mathlib.Omega.{arith}
 use borrow.Fn.Kinds.{In}
 use borrow.Fn.PlainCycle.{Measures, is, falls, and}
-use Rattle.report.proofs.output.+put_decimal.{statement}
-use Rattle.report.proofs.output.+put_decimal.Tie.{close}
-use Rattle.report.proofs.output.put_decimal.Reads as put-decimal
-use Rattle.report.proofs.output.put_decimal.Kinds as put-decimal-kinds
-use Rattle.report.proofs.output.+put_decimal.Lts-put_decimal as put-decimal-lts
-use Rattle.report.proofs.output.put_byte.Reads as put-byte-reads
+use Rattle.print.proofs.printed.+put_decimal.{statement}
+use Rattle.print.proofs.printed.+put_decimal.Tie.{close}
+use Rattle.print.proofs.printed.put_decimal.Reads as put-decimal
+use Rattle.print.proofs.printed.put_decimal.Kinds as put-decimal-kinds
+use Rattle.print.proofs.printed.+put_decimal.Lts-put_decimal as put-decimal-lts
+use Rattle.print.proofs.printed.put_byte.Reads as put-byte-reads
 
 abbrev μ-put-decimal : Measures 1 put-decimal-kinds.ps ℕ
 μ-put-decimal κs a = a .1 .1 .0

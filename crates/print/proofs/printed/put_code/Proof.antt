@@ -1,11 +1,11 @@
 use Rattle.contexts.specs.Context.{contextRow}
-use Rattle.report.specs.Output.{contextLine}
+use Rattle.print.specs.Printed.{contextLine}
 use Rattle.lent.specs.Fit32.{Fit32}
-use Rattle.report.proofs.Writing.{put-then}
+use Rattle.print.proofs.Writing.{put-then}
 use native.Mathlib.Omega.{arith}
 use borrow.Author.Needs.{needs}
-use Rattle.report.proofs.output.put_code.Statement.{statement}
-use Rattle.report.proofs.output.put_code.Tie as tie
+use Rattle.print.proofs.printed.put_code.Statement.{statement}
+use Rattle.print.proofs.printed.put_code.Tie as tie
 
 pub put-code-spec : {M : Type 1} → statement M
 unfolding contextLine contextRow Fit32

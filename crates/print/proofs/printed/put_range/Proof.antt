@@ -1,9 +1,9 @@
 use Rattle.lent.specs.Text.{bytesOf}
-use Rattle.report.proofs.Writing.{put-then, range-absent, range-present}
+use Rattle.print.proofs.Writing.{put-then, range-absent, range-present}
 use native.Mathlib.Omega.{arith}
 use borrow.Author.Needs.{needs}
-use Rattle.report.proofs.output.put_range.Statement.{statement}
-use Rattle.report.proofs.output.put_range.Tie as tie
+use Rattle.print.proofs.printed.put_range.Statement.{statement}
+use Rattle.print.proofs.printed.put_range.Tie as tie
 
 pub put-range-spec : {M : Type 1} → statement M
 unfolding bytesOf

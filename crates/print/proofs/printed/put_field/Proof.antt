@@ -1,8 +1,8 @@
-use Rattle.report.proofs.Writing.{put-then, decimal-short}
+use Rattle.print.proofs.Writing.{put-then, decimal-short}
 use native.Mathlib.Omega.{arith}
 use borrow.Author.Needs.{needs}
-use Rattle.report.proofs.output.put_field.Statement.{statement}
-use Rattle.report.proofs.output.put_field.Tie as tie
+use Rattle.print.proofs.printed.put_field.Statement.{statement}
+use Rattle.print.proofs.printed.put_field.Tie as tie
 
 pub put-field-spec : {M : Type 1} → statement M
 put-field-spec =

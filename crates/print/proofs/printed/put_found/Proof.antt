@@ -1,9 +1,9 @@
-use Rattle.report.specs.Output.{statementLine}
-use Rattle.report.proofs.Writing.{put-then}
+use Rattle.print.specs.Printed.{statementLine}
+use Rattle.print.proofs.Writing.{put-then}
 use native.Mathlib.Omega.{arith}
 use borrow.Author.Needs.{needs}
-use Rattle.report.proofs.output.put_found.Statement.{statement}
-use Rattle.report.proofs.output.put_found.Tie as tie
+use Rattle.print.proofs.printed.put_found.Statement.{statement}
+use Rattle.print.proofs.printed.put_found.Tie as tie
 
 pub put-found-spec : {M : Type 1} → statement M
 unfolding statementLine

@@ -1,10 +1,10 @@
-use Rattle.report.specs.Output.{printed}
-use Rattle.report.proofs.Writing.{put-then, words-split}
+use Rattle.print.specs.Printed.{printed}
+use Rattle.print.proofs.Writing.{put-then, words-split}
 use Prim.Native.Nat.{_+_}
 use native.Mathlib.Omega.{arith}
 use borrow.Author.Needs.{needs}
-use Rattle.report.proofs.output.put_line.Statement.{statement}
-use Rattle.report.proofs.output.put_line.Tie as tie
+use Rattle.print.proofs.printed.put_line.Statement.{statement}
+use Rattle.print.proofs.printed.put_line.Tie as tie
 
 pub put-line-spec : {M : Type 1} → statement M
 unfolding printed
