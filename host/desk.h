@@ -2,7 +2,7 @@
  * a prefix. The code is for x86-64 and needs nothing but memset. docs/GUIDE.md says more of tables, contexts and entries, with examples.
  *
  * A slice is a pointer and a length in bytes; with length 0 the pointer may be null. No call needs a check before it, keeps a pointer,
- * allocates, or writes outside `out`. `out` must not overlap the other slices.
+ * allocates, or writes outside `out` and the lists' buffers. What is written must not overlap another slice.
  * Threads: there is no state. Any number of threads may ask at once; what one reads or writes in a call no other may write in that time.
  * Stack: no question needs more than 44 KiB (docs/MEASURES.md has each).
  *
@@ -65,6 +65,7 @@ static uint64_t (*const desk_layout)(void) = desk_layout_3;
 #define DESK_REFERENCE_BYTES 52 /* record; then of database, table and alias, one after another: outer start, end; inner start, end */
 #define DESK_CONTEXT_BYTES 16   /* context; name start, end; argument index */
 #define DESK_ABOVE_BYTES 4      /* record */
+#define DESK_EVERYTHING_BYTES 36 /* a context's four numbers; root; how many WITH names, table aliases, column aliases, table references */
 
 #define DESK_REFUSAL(reply) ((uint32_t)(reply))
 #define DESK_ANSWER(reply) ((uint32_t)((uint64_t)(reply) >> 32))
@@ -166,6 +167,7 @@ struct desk_name { struct desk_range outer, inner; };
 struct desk_binding_entry { struct desk_range token, name, definition; };
 struct desk_reference_entry { uint32_t record; struct desk_name database, table, alias; };
 struct desk_context_entry { uint32_t context; struct desk_range name; uint32_t argument; };
+struct desk_everything_entry { struct desk_context_entry context; uint32_t root, with_names, table_aliases, column_aliases, table_refs; };
 
 /* Is there no such range? */
 static inline int desk_absent(struct desk_range r) { return r.start == DESK_NONE && r.end == DESK_NONE; }
@@ -237,6 +239,18 @@ static inline void desk_put_context(uint8_t *out, size_t i, struct desk_context_
     out += DESK_CONTEXT_BYTES * i; desk_put_number(out, e.context); desk_put_range(out + 4, e.name); desk_put_number(out + 12, e.argument);
 }
 
+static inline struct desk_everything_entry desk_get_everything(const uint8_t *out) {
+    const uint8_t *at = out + DESK_CONTEXT_BYTES;
+    struct desk_everything_entry e = {desk_get_context(out, 0), desk_get_number(at), desk_get_number(at + 4), desk_get_number(at + 8), desk_get_number(at + 12),
+        desk_get_number(at + 16)};
+    return e;
+}
+static inline void desk_put_everything(uint8_t *out, struct desk_everything_entry e) {
+    desk_put_context(out, 0, e.context);
+    out += DESK_CONTEXT_BYTES; desk_put_number(out, e.root); desk_put_number(out + 4, e.with_names); desk_put_number(out + 8, e.table_aliases);
+    desk_put_number(out + 12, e.column_aliases); desk_put_number(out + 16, e.table_refs);
+}
+
 /* a record number: the entry of the openers left, and of the records above */
 static inline uint32_t desk_get_opener(const uint8_t *out, size_t i) { return desk_get_number(out + DESK_OPENER_BYTES * i); }
 static inline void desk_put_opener(uint8_t *out, size_t i, uint32_t record) { desk_put_number(out + DESK_OPENER_BYTES * i, record); }
@@ -306,6 +320,13 @@ uint64_t desk_with_names_at(const uint8_t *table, size_t table_len, const uint8_
 uint64_t desk_table_aliases_at(const uint8_t *table, size_t table_len, const uint8_t *source, size_t source_len, uint32_t offset, uint8_t *out, size_t out_len);
 uint64_t desk_column_aliases_at(const uint8_t *table, size_t table_len, const uint8_t *source, size_t source_len, uint32_t offset, uint8_t *out, size_t out_len);
 uint64_t desk_table_refs_at(const uint8_t *table, size_t table_len, const uint8_t *source, size_t source_len, uint32_t offset, uint8_t *out, size_t out_len);
+
+/* All of this in one call, as a desk asks it at each key; the table is checked once. `out` gets one entry of DESK_EVERYTHING_BYTES: what desk_cursor_context gives,
+ * what desk_cursor_root answers, and how many entries each list has. Each list stands in a buffer of its own, as its own question writes it: the WITH names, the
+ * aliases of tables, those of columns, and the tables. Answer: 1. Refusals 1 to 6, then 7 for the first buffer without room, in this order; its detail is 1 for the
+ * entry, else the entries that the list needs. Then no byte of any buffer was touched: give every list's buffer room for that many entries, and ask again,
+ * which is four times at most. No two of the buffers may overlap. */
+uint64_t desk_everything_at(const uint8_t *table, size_t table_len, const uint8_t *source, size_t source_len, uint32_t offset, uint8_t *out, size_t out_len, uint8_t *names, size_t names_len, uint8_t *aliases, size_t aliases_len, uint8_t *columns, size_t columns_len, uint8_t *refs, size_t refs_len);
 
 #ifdef __cplusplus
 }

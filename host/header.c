@@ -47,6 +47,10 @@ static void entries(void) {
     expect("its names without quotes", t.database.inner.end == g.inner.end && t.table.inner.end == h.inner.end && t.alias.inner.end == i.inner.end);
     paint(); desk_put_context(odd, 2, x); x = desk_get_context(odd, 2);
     expect("a context", written(33, DESK_CONTEXT_BYTES, a.start) && x.context == a.start && x.name.end == d.end && x.argument == b.end);
+    struct desk_everything_entry y = {x, c.start, c.end, 0x81a2b3ca, 0x81a2b3cb, 0x81a2b3cc};
+    paint(); desk_put_everything(odd, y); y = desk_get_everything(odd);
+    expect("everything", written(1, DESK_EVERYTHING_BYTES, a.start) && y.context.argument == b.end && y.root == c.start && y.with_names == c.end);
+    expect("everything's counts", y.table_aliases == 0x81a2b3ca && y.column_aliases == 0x81a2b3cb && y.table_refs == 0x81a2b3cc);
     paint(); desk_put_opener(odd, 3, a.start);
     expect("an opener", written(13, DESK_OPENER_BYTES, a.start) && desk_get_opener(odd, 3) == a.start);
     paint(); desk_put_above(odd, 3, a.start);

@@ -8,6 +8,7 @@
 enum { STACK = 1 << 20, PAINT = 0xa5 };
 static _Alignas(4096) uint8_t stack[STACK];
 static uint8_t table[DESK_RECORD_BYTES * DESK_RECORDS_MAX], source[DESK_SOURCE_MAX], out[32 * DESK_CLASS_BYTES * DESK_RECORDS_MAX];
+static uint8_t lists[4][sizeof out]; /* of everything at a cursor */
 static uint8_t offsets[DESK_OFFSET_BYTES * DESK_OFFSETS_MAX];
 static size_t used;
 
@@ -38,7 +39,7 @@ static const struct { const char *name; of_root *list; of_page *page; of_offset 
     {"desk_enclosing_statement", 0, 0, desk_enclosing_statement}, {"desk_cursor_root", 0, 0, desk_cursor_root},
     {"desk_with_names_at", desk_with_names_at, 0, 0}, {"desk_table_aliases_at", desk_table_aliases_at, 0, 0},
     {"desk_column_aliases_at", desk_column_aliases_at, 0, 0}, {"desk_table_refs_at", desk_table_refs_at, 0, 0},
-    {"desk_check", 0, 0, 0}, {"desk_bracket_hint", 0, 0, 0},
+    {"desk_everything_at", 0, 0, 0}, {"desk_check", 0, 0, 0}, {"desk_bracket_hint", 0, 0, 0},
 };
 static size_t asked;
 
@@ -50,6 +51,8 @@ static void *ask(void *unused) {
     else if (!strcmp(questions[asked].name, "desk_check")) desk_check(table, used, source, sizeof source);
     else if (!strcmp(questions[asked].name, "desk_cursor_contexts"))
         desk_cursor_contexts(table, used, source, sizeof source, offsets, sizeof offsets, out, sizeof out);
+    else if (!strcmp(questions[asked].name, "desk_everything_at"))
+        desk_everything_at(table, used, source, sizeof source, 0, out, sizeof out, lists[0], sizeof *lists, lists[1], sizeof *lists, lists[2], sizeof *lists, lists[3], sizeof *lists);
     else if (!strcmp(questions[asked].name, "desk_bracket_hint"))
         desk_bracket_hint(table, used, source, sizeof source, (const uint8_t *)"expected )", 10);
     return 0;

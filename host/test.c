@@ -72,6 +72,18 @@ static void in_room(const char *q, uint32_t of, size_t len, uint32_t refusal, ui
     }
 }
 
+/* Everything at a cursor in one call, in five buffers between guards: their rooms, the reply, and what each has afterwards; none is touched where it is refused. */
+static void together(const char *what, uint32_t offset, const size_t rooms[5], uint32_t refusal, uint32_t answer, const uint32_t *const numbers[5], const size_t counts[5]) {
+    static uint8_t buffers[5][GUARD + 4096 + GUARD], expected[5][sizeof *buffers];
+    for (int k = 0; k < 5; k++) {
+        for (size_t i = 0; i < sizeof *buffers; i++) buffers[k][i] = expected[k][i] = (uint8_t)(i * 41 + (size_t)k);
+        for (size_t i = 0; !refusal && i < counts[k]; i++) number(expected[k] + GUARD + 4 * i, numbers[k][i]);
+    }
+    expect(what, desk_everything_at(table, used, source, source_len, offset, buffers[0] + GUARD, rooms[0], buffers[1] + GUARD, rooms[1], buffers[2] + GUARD, rooms[2],
+        buffers[3] + GUARD, rooms[3], buffers[4] + GUARD, rooms[4]), refusal, answer);
+    if (memcmp(buffers, expected, sizeof buffers)) wrong++, printf("%s: other bytes\n", what);
+}
+
 /* More room than needed, exactly enough, one byte short, none. */
 static void in_rooms(const char *q, uint32_t of, const uint32_t *numbers, size_t entries, size_t width) {
     size_t need = entries * width;
@@ -90,6 +102,9 @@ static void refused(uint32_t refusal, uint32_t detail) {
     expect("statement", desk_enclosing_statement(table, used, source, source_len, 0), refusal, detail);
     expect("root", desk_cursor_root(table, used, source, source_len, 0), refusal, detail);
     for (size_t i = 0; i < sizeof lists / sizeof *lists; i++) in_room(lists[i], 0, ROOM, refusal, detail, NULL, 0);
+    static const size_t none[5] = {0}, some[5] = {4096, 4096, 4096, 4096, 4096};
+    together("everything", 0, none, refusal, detail, NULL, none);
+    together("everything", 0, some, refusal, detail, NULL, none);
     offsets_len = DESK_OFFSET_BYTES + 1; /* 10 stands after 2, and before what is said of a record */
     in_room("cursor_contexts", 0, ROOM, refusal <= 2 ? refusal : 10, 0, NULL, 0);
     offsets_len = DESK_OFFSET_BYTES;
@@ -224,6 +239,21 @@ static void names(void) {
     in_rooms("table_refs", 15, reference, 1, DESK_REFERENCE_BYTES);
     in_rooms("table_refs_at", 20, reference, 1, DESK_REFERENCE_BYTES);
     in_rooms("openers_left", 0, opener, 1, DESK_OPENER_BYTES);
+    /* all of it in one call: in rooms that are enough, exactly enough, and short for one buffer after another, where the first that is short is told of */
+    static const uint32_t entry[] = {0, DESK_NONE, DESK_NONE, 0, 1, 1, 0, 1, 1}, *const all[5] = {entry, with, NULL, column, reference};
+    static const size_t counts[5] = {9, 6, 0, 6, 13};
+    size_t rooms[5], exact[5];
+    for (int k = 0; k < 5; k++) exact[k] = 4 * counts[k], rooms[k] = exact[k] + 5;
+    together("everything with room", 20, rooms, 0, 1, all, counts);
+    together("everything exactly", 20, exact, 0, 1, all, counts);
+    for (int k = 4; k >= 0; k--) {
+        if (!exact[k]) continue;
+        rooms[k] = exact[k] - 1;
+        together("everything with one short, and those behind it", 20, rooms, 7, 1, all, counts);
+        memcpy(rooms, exact, sizeof rooms);
+        for (int behind = k; behind < 5; behind++) rooms[behind] = 0;
+    }
+    expect("everything nowhere", desk_everything_at(table, used, source, source_len, 20, NULL, 0, NULL, 0, NULL, 0, NULL, 0, NULL, 0), 7, 1);
 }
 
 /* Names with and without their quotes: of each, the outer range and the inner one. A lone mark, marks that do not match, a Quoted without marks and a bareword

@@ -22,9 +22,10 @@ pub struct Tally {
 
 /// Which of our answers is falsified, to see that it is found: 0 none, 1 the check, 2 the hint, 3 the statement,
 /// 4 the cursor's root, then the count, bytes and guard of each list of a table or root, the context, each list at the cursor, what is above a
-/// record, and the contexts at many offsets; last, what glance prints.
+/// record, the contexts at many offsets, and everything at a cursor in one call; last, what glance prints.
 pub static FLIP: AtomicUsize = AtomicUsize::new(0);
-pub const FLIPS: usize = 4 + 3 * 13 + 1;
+pub const FLIPS: usize = 4 + 3 * 14 + 1;
+const EVERYTHING_FLIP: usize = 5 + 3 * 13;
 
 pub fn flipped(n: usize) -> bool {
     FLIP.load(Ordering::Relaxed) == n
@@ -151,6 +152,52 @@ fn scope(rust: &Asked, root: usize, tally: &mut Tally) -> Result<[Vec<Vec<u32>>;
     }
 }
 
+/// Everything at a cursor in one call, in five buffers of these rooms with guard bytes on both sides: it gives the entries of each, or is refused for the first
+/// that has no room, and then touches none.
+fn together(f: &Frame, table: &[u8], offset: u32, rooms: [usize; 5], refused: Option<(u32, u32)>, entries: &[Vec<Vec<u32>>; 5]) -> Result<(), String> {
+    let needs = [0, 1, 2, 3, 4].map(|i| 4 * entries[i].iter().map(Vec::len).sum::<usize>());
+    let mut all = rooms.map(|room| (0..GUARD + room + GUARD).map(|i| (i * 41 + 5) as u8).collect::<Vec<u8>>());
+    let mut expected = all.clone();
+    let reply = refused.or((0..5).find(|&i| rooms[i] < needs[i]).map(|i| (7, entries[i].len() as u32))).unwrap_or((0, 1));
+    if reply.0 == 0 {
+        for (bytes, entries) in expected.iter_mut().zip(entries) {
+            for (i, n) in entries.iter().flatten().enumerate() {
+                bytes[GUARD + 4 * i..GUARD + 4 * i + 4].copy_from_slice(&n.to_le_bytes());
+            }
+        }
+    }
+    let mut lent = all.iter_mut().zip(rooms).map(|(bytes, room)| &mut bytes[GUARD..GUARD + room]);
+    let out = [0; 5].map(|_| lent.next().expect("five"));
+    let mut got = desk::everything(table, &f.source, offset, out);
+    if flipped(EVERYTHING_FLIP) { got.1 ^= 1 }
+    if flipped(EVERYTHING_FLIP + 1) && got.0 == 0 { all[0][GUARD + needs[0] - 1] ^= 1 }
+    if flipped(EVERYTHING_FLIP + 2) { all[4][GUARD + rooms[4]] ^= 1 }
+    if got != reply {
+        return Err(format!("everything at {offset} in {rooms:?} bytes: ours {got:?}, singly {reply:?}; its entries {entries:?}"));
+    }
+    match (0..5).find(|&i| all[i] != expected[i]) {
+        Some(i) => Err(format!("everything at {offset} in {rooms:?} bytes: buffer {i} differs; its entries {entries:?}")),
+        None => Ok(()),
+    }
+}
+
+/// The same in rooms that are enough, exactly enough, and short for each buffer in turn, alone and with those behind it.
+fn everything(f: &Frame, table: &[u8], offset: u32, context: &[u32], root: u32, lists: [Vec<Vec<u32>>; 4]) -> Result<(), String> {
+    let entry: Vec<u32> = context.iter().copied().chain([root]).chain(lists.iter().map(|l| l.len() as u32)).collect();
+    let [w, a, c, r] = lists;
+    let entries = [vec![entry], w, a, c, r];
+    let needs = [0, 1, 2, 3, 4].map(|i| 4 * entries[i].iter().map(Vec::len).sum::<usize>());
+    together(f, table, offset, needs.map(|n| n + 13), None, &entries)?;
+    together(f, table, offset, needs, None, &entries)?;
+    for short in 0..5 {
+        let alone = |i: usize| if i == short { needs[i].saturating_sub(1) } else { needs[i] };
+        let behind = |i: usize| if i >= short { needs[i] / 2 } else { needs[i] };
+        together(f, table, offset, [0, 1, 2, 3, 4].map(alone), None, &entries)?;
+        together(f, table, offset, [0, 1, 2, 3, 4].map(behind), None, &entries)?;
+    }
+    Ok(())
+}
+
 /// Every question at a cursor.
 fn cursor(rust: &Asked, f: &Frame, table: &[u8], offset: u32, tally: &mut Tally) -> Result<(), String> {
     let statement = rust.statement(offset);
@@ -170,10 +217,10 @@ fn cursor(rust: &Asked, f: &Frame, table: &[u8], offset: u32, tally: &mut Tally)
     in_rooms(List::Context, f, table, Of::Cursor(offset), &[context.to_vec()], tally)?;
     let mut lists = scope(rust, root as usize, tally)?;
     lists[0].extend(around(rust, root as usize, tally)?);
-    for (q, entries) in SCOPE.into_iter().zip(lists) {
-        in_rooms(q, f, table, Of::Cursor(offset), &entries, tally)?;
+    for (q, entries) in SCOPE.into_iter().zip(&lists) {
+        in_rooms(q, f, table, Of::Cursor(offset), entries, tally)?;
     }
-    Ok(())
+    everything(f, table, offset, &context, root, lists)
 }
 
 /// Many cursors in one call, where the Rust says so of each offset: in order and backwards, some twice, up to 64; and lists of offsets that are refused.
@@ -239,6 +286,9 @@ pub fn difference(f: &Frame, tally: &mut Tally) -> Result<(), String> {
             }
         }
         many(f, &table, refused, &[], tally)?;
+        for rooms in [[0; 5], [64; 5]] {
+            together(f, &table, 0, rooms, refused, &Default::default())?;
+        }
         for (name, ours) in [("statement", desk::statement(&table, &f.source, 0)), ("root", desk::root(&table, &f.source, 0))] {
             if Some(ours) != refused {
                 return Err(format!("{name}: ours {ours:?}, by document 01 {refused:?}"));

@@ -10,6 +10,7 @@ extern "C" {
     fn desk_table_refs(t: *const u8, tn: usize, s: *const u8, sn: usize, r: u32, o: *mut u8, on: usize) -> u64;
     fn desk_records_above(t: *const u8, tn: usize, s: *const u8, sn: usize, r: u32, o: *mut u8, on: usize) -> u64;
     fn desk_cursor_context(t: *const u8, tn: usize, s: *const u8, sn: usize, f: u32, o: *mut u8, on: usize) -> u64;
+    fn desk_everything_at(t: *const u8, tn: usize, s: *const u8, sn: usize, f: u32, o: *mut u8, on: usize, w: *mut u8, wn: usize, a: *mut u8, an: usize, c: *mut u8, cn: usize, r: *mut u8, rn: usize) -> u64;
     fn desk_cursor_contexts(t: *const u8, tn: usize, s: *const u8, sn: usize, f: *const u8, fs: usize, o: *mut u8, on: usize) -> u64;
     fn desk_enclosing_statement(t: *const u8, tn: usize, s: *const u8, sn: usize, f: u32) -> u64;
     fn desk_cursor_root(t: *const u8, tn: usize, s: *const u8, sn: usize, f: u32) -> u64;
@@ -97,5 +98,14 @@ pub fn list(q: List, t: &[u8], s: &[u8], of: Of, out: &mut [u8]) -> (u32, u32) {
             (List::Contexts, _) | (_, Of::Cursors(_)) => panic!("no such question"),
             (List::Context, Of::Cursor(f) | Of::Root(f)) => desk_cursor_context(tp, tn, sp, sn, f, op, on),
         }
+    })
+}
+
+/// Everything at a cursor in one call: the entry's buffer, and one for each list in the order of `SCOPE`.
+pub fn everything(t: &[u8], s: &[u8], offset: u32, out: [&mut [u8]; 5]) -> (u32, u32) {
+    let [o, w, a, c, r] = out;
+    let (tp, tn, sp, sn) = (t.as_ptr(), t.len(), s.as_ptr(), s.len());
+    halves(unsafe {
+        desk_everything_at(tp, tn, sp, sn, offset, o.as_mut_ptr(), o.len(), w.as_mut_ptr(), w.len(), a.as_mut_ptr(), a.len(), c.as_mut_ptr(), c.len(), r.as_mut_ptr(), r.len())
     })
 }

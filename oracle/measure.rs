@@ -118,6 +118,11 @@ fn measure_page(records: usize, depth: u32) {
     both("enclosing_statement", &|| desk::statement(black_box(&table), &f.source, middle).1 as usize, &|| rust.statement_once(black_box(middle)));
     counted(&row("cursor's_root"), "ours", &|| desk::root(black_box(&table), &f.source, middle).1 as usize);
     counted(&row("four_lists_at_cursor"), "ours", &|| SCOPE.map(|q| list(q, Of::Cursor(middle))).iter().sum());
+    let lent = RefCell::new([0; 5].map(|_| vec![0; 1 << 18]));
+    counted(&row("everything_at_cursor"), "ours", &|| {
+        let [o, w, a, c, r] = &mut *lent.borrow_mut();
+        desk::everything(black_box(&table), black_box(&f.source), middle, [o, w, a, c, r]).1 as usize
+    });
 }
 
 /// The words of typical SQL, what stands between quotes aside, below a node of the kind.

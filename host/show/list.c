@@ -37,6 +37,29 @@ struct list ask_page(const struct page *page, page_question *asked, size_t width
     return list;
 }
 
+/* One call for all of it. A room that is too small is made larger for every list by what the refusal says, and then it is asked again. */
+struct at_cursor ask_everything(const struct page *page) {
+    struct at_cursor at;
+    uint8_t entry[DESK_EVERYTHING_BYTES];
+    for (uint32_t entries = 8;;) {
+        size_t bindings = entries * (size_t)DESK_BINDING_BYTES, references = entries * (size_t)DESK_REFERENCE_BYTES;
+        at.with_names.bytes = room(bindings), at.table_aliases.bytes = room(bindings), at.column_aliases.bytes = room(bindings), at.table_refs.bytes = room(references);
+        uint64_t reply = desk_everything_at(ASKED(page), page->cursor, entry, sizeof entry, at.with_names.bytes, bindings, at.table_aliases.bytes, bindings,
+            at.column_aliases.bytes, bindings, at.table_refs.bytes, references);
+        if (DESK_REFUSAL(reply) != DESK_REFUSAL_ROOM) { answered(page, reply); break; }
+        entries = DESK_ANSWER(reply);
+        free_everything(&at);
+    }
+    at.entry = desk_get_everything(entry);
+    at.with_names.count = at.entry.with_names, at.table_aliases.count = at.entry.table_aliases;
+    at.column_aliases.count = at.entry.column_aliases, at.table_refs.count = at.entry.table_refs;
+    return at;
+}
+
+void free_everything(struct at_cursor *at) {
+    free(at->with_names.bytes); free(at->table_aliases.bytes); free(at->column_aliases.bytes); free(at->table_refs.bytes);
+}
+
 /* a record's span, as far as the source has it */
 struct desk_range span_of(const struct page *page, uint32_t record) {
     struct desk_record r = desk_get_record(page->table, record);

@@ -37,8 +37,10 @@ static int coloured(void) {
 static int show(const struct page *page, int colours) {
     answered(page, desk_check(ASKED(page)));
     show_source(page, colours);
-    show_cursor(page);
-    show_offers(page);
+    struct at_cursor at = ask_everything(page);
+    show_cursor(page, &at);
+    show_offers(page, &at);
+    free_everything(&at);
     show_classes(page, colours);
     show_brackets(page);
     return 0;

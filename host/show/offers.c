@@ -14,13 +14,6 @@ void say_context(const struct page *page, struct desk_context_entry e) {
     printf("\n");
 }
 
-static void show_typed(const struct page *page) {
-    struct list list = ask(page, desk_cursor_context, page->cursor, DESK_CONTEXT_BYTES);
-    printf("  %-15s ", "is being typed");
-    say_context(page, desk_get_context(list.bytes, 0));
-    free(list.bytes);
-}
-
 /* the token that ends at the cursor or holds it, or the last before it; DESK_NONE where there is none */
 static uint32_t token_before(const struct page *page) {
     uint32_t found = DESK_NONE;
@@ -66,11 +59,12 @@ static void show_run(const struct page *page) {
     }
 }
 
-void show_cursor(const struct page *page) {
+void show_cursor(const struct page *page, const struct at_cursor *at) {
     printf("\nat the cursor: ");
     say_place(page, page->cursor);
     printf(" (offset %" PRIu32 ")\n", page->cursor);
-    show_typed(page);
+    printf("  %-15s ", "is being typed");
+    say_context(page, at->entry.context);
     show_token(page);
     show_run(page);
 }
@@ -82,16 +76,14 @@ static int again(const struct list *list, size_t width, uint32_t i) {
     return 0;
 }
 
-static void show_bindings(const struct page *page, const char *what, question *asked, uint32_t of) {
-    struct list list = ask(page, asked, of, DESK_BINDING_BYTES);
+static void show_bindings(const struct page *page, const char *what, const struct list *list) {
     printf("  %-15s", what);
-    for (uint32_t i = 0; i < list.count; i++) {
-        if (again(&list, DESK_BINDING_BYTES, i)) continue;
+    for (uint32_t i = 0; i < list->count; i++) {
+        if (again(list, DESK_BINDING_BYTES, i)) continue;
         printf(i ? ", " : " ");
-        say_text(page, desk_get_binding(list.bytes, i).name);
+        say_text(page, desk_get_binding(list->bytes, i).name);
     }
-    printf(list.count ? "\n" : " -\n");
-    free(list.bytes);
+    printf(list->count ? "\n" : " -\n");
 }
 
 static int quoted(struct desk_name n) { return n.outer.start != n.inner.start; }
@@ -102,34 +94,34 @@ static void say_table(const struct page *page, struct desk_range database, struc
 }
 
 /* A table as it stands in the source, without its quotes where it has some, and its alias without them. */
-static void show_tables(const struct page *page, question *asked, uint32_t of) {
-    struct list list = ask(page, asked, of, DESK_REFERENCE_BYTES);
+static void show_tables(const struct page *page, const struct list *list) {
     printf("  %-15s", "tables");
-    for (uint32_t i = 0; i < list.count; i++) {
-        struct desk_reference_entry e = desk_get_reference(list.bytes, i);
-        if (again(&list, DESK_REFERENCE_BYTES, i)) continue;
+    for (uint32_t i = 0; i < list->count; i++) {
+        struct desk_reference_entry e = desk_get_reference(list->bytes, i);
+        if (again(list, DESK_REFERENCE_BYTES, i)) continue;
         printf(i ? ", " : " ");
         say_table(page, e.database.outer, e.table.outer);
         if (quoted(e.database) || quoted(e.table)) { printf(" ("); say_table(page, e.database.inner, e.table.inner); printf(")"); }
         if (!desk_unnamed(e.alias)) { printf(" as "); say_text(page, e.alias.inner); }
     }
-    printf(list.count ? "\n" : " -\n");
-    free(list.bytes);
+    printf(list->count ? "\n" : " -\n");
 }
 
 /* Before: the names of the whole page, subqueries aside. Now: those of the query that the cursor stands in, and the WITH names that it sees. */
-void show_offers(const struct page *page) {
-    uint32_t root = answered(page, desk_cursor_root(ASKED(page), page->cursor));
+void show_offers(const struct page *page, const struct at_cursor *at) {
+    struct list with_names = ask(page, desk_with_names, 0, DESK_BINDING_BYTES), table_aliases = ask(page, desk_table_aliases, 0, DESK_BINDING_BYTES);
+    struct list column_aliases = ask(page, desk_column_aliases, 0, DESK_BINDING_BYTES), table_refs = ask(page, desk_table_refs, 0, DESK_REFERENCE_BYTES);
     printf("\nbefore: the names of the page, wherever the cursor stands\n");
-    show_bindings(page, "WITH names", desk_with_names, 0);
-    show_bindings(page, "table aliases", desk_table_aliases, 0);
-    show_bindings(page, "column aliases", desk_column_aliases, 0);
-    show_tables(page, desk_table_refs, 0);
+    show_bindings(page, "WITH names", &with_names);
+    show_bindings(page, "table aliases", &table_aliases);
+    show_bindings(page, "column aliases", &column_aliases);
+    show_tables(page, &table_refs);
+    free(with_names.bytes); free(table_aliases.bytes); free(column_aliases.bytes); free(table_refs.bytes);
     printf("now: the names of ");
-    say_text(page, span_of(page, root));
+    say_text(page, span_of(page, at->entry.root));
     printf("\n");
-    show_bindings(page, "WITH names", desk_with_names_at, page->cursor);
-    show_bindings(page, "table aliases", desk_table_aliases_at, page->cursor);
-    show_bindings(page, "column aliases", desk_column_aliases_at, page->cursor);
-    show_tables(page, desk_table_refs_at, page->cursor);
+    show_bindings(page, "WITH names", &at->with_names);
+    show_bindings(page, "table aliases", &at->table_aliases);
+    show_bindings(page, "column aliases", &at->column_aliases);
+    show_tables(page, &at->table_refs);
 }

@@ -36,6 +36,10 @@ typedef uint64_t question(const uint8_t *, size_t, const uint8_t *, size_t, uint
 typedef uint64_t page_question(const uint8_t *, size_t, const uint8_t *, size_t, uint8_t *, size_t);
 struct list ask(const struct page *page, question *asked, uint32_t of, size_t width);
 struct list ask_page(const struct page *page, page_question *asked, size_t width);
+/* everything at the cursor: the entry, and each list */
+struct at_cursor { struct desk_everything_entry entry; struct list with_names, table_aliases, column_aliases, table_refs; };
+struct at_cursor ask_everything(const struct page *page);
+void free_everything(struct at_cursor *at);
 uint32_t answered(const struct page *page, uint64_t reply); /* ends the program, saying the refusal in words, where there is no answer */
 struct desk_range span_of(const struct page *page, uint32_t record);
 void say_place(const struct page *page, uint32_t offset);   /* line and column, from 1 */
@@ -54,6 +58,6 @@ int show_cursors(const struct page *page, const char *given);
 
 /* offers.c */
 void say_context(const struct page *page, struct desk_context_entry e);
-void show_cursor(const struct page *page);
-void show_offers(const struct page *page);
+void show_cursor(const struct page *page, const struct at_cursor *at);
+void show_offers(const struct page *page, const struct at_cursor *at);
 #endif

@@ -11,8 +11,9 @@ use native.Mathlib.Omega.{arith}
 use native.Mathlib.Nat.{mul-div-cancel}
 use borrow.Author.Tests.{lt-ltb, le-ltb}
 use lib.ListN.{length}
-use Rattle.table.specs.Table.{count, depthAt, parentAt}
-use Rattle.table.specs.Rules.{mostRecords, noSuchRecord, rules, numberRules, verdict}
+use Rattle.records.specs.Table.{count, depthAt, parentAt}
+use Rattle.conditions.specs.Conditions.{mostRecords, noSuchRecord}
+use Rattle.table.specs.Rules.{rules, numberRules, verdict}
 use Rattle.lent.specs.Verdicts.{Rule, rule, first}
 use Rattle.lent.specs.declared.verdict.Verdict.{Verdict}
 use Rattle.lent.specs.declared.verdict.Verdict.the-variants.{Admitted, Refused}

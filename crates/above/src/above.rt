@@ -1,19 +1,20 @@
 // The records above a record, nearest first: its parent, then that one's, up to record 0 (document 02, §8).
+use conditions::refusal::NO_ROOT;
 use lent::list::Listed;
 use lent::list::put_entry;
 use lent::number::NUMBER_BYTES;
 use lent::verdict::NO_ROOM;
 use lent::verdict::Verdict;
-use table::check::NO_ROOT;
+use records::record::count_of;
+use records::record::depth_at;
+use records::record::parent_at;
 use table::check::check;
-use table::record::count_of;
-use table::record::depth_at;
-use table::record::parent_at;
 ghost use mathlib.Core.List.{[]};
 ghost use Prim.Native.Nat.{_<_, _≤_};
 ghost use lib.ListN.{length};
-ghost use Rattle.table.specs.Table.{count};
-ghost use Rattle.table.specs.Rules.{mostRecords, numberRules};
+ghost use Rattle.records.specs.Table.{count};
+ghost use Rattle.conditions.specs.Conditions.{mostRecords};
+ghost use Rattle.table.specs.Rules.{numberRules};
 ghost use Rattle.lent.specs.Lists.{Written, Answers};
 ghost use Rattle.forest.specs.Above.{above};
 ghost use Rattle.forest.specs.inner.Climbing.{Climbs};

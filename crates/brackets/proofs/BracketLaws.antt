@@ -11,8 +11,8 @@ use borrow.Author.Tests.{le-leb, lt-leb, eq-eqb, ne-eqb, eqb-true}
 use lib.Dec.{eqb}
 use lib.ListN.{length, getD, set, take, drop, length-take, length-drop, length-map, take-append-drop}
 use lib.Seq.{getD-set-same, getD-set-other, take-suc, take-all, take-length, take-append-le, length-take-le}
-use Rattle.table.specs.declared.record.Rec.{Rec}
-use Rattle.table.specs.Table.{records}
+use Rattle.records.specs.declared.record.Rec.{Rec}
+use Rattle.records.specs.Table.{records}
 use Rattle.forest.specs.Forest.{Forest, nil, token, node, kids}
 use Rattle.lent.specs.declared.verdict.Verdict.{Verdict}
 use Rattle.lent.specs.declared.verdict.Verdict.the-variants.{Admitted, Refused}

@@ -10,10 +10,11 @@ use lib.Dec.{eqb}
 use Rattle.lent.specs.declared.verdict.Verdict.the-variants.{Admitted}
 use Rattle.lent.specs.Text.{bytesOf}
 use Rattle.lent.specs.Fit32.{Fit32, AllFit32}
-use Rattle.table.specs.declared.record.Rec.{Rec}
-use Rattle.table.specs.Kinds.{openingRound, openingSquare, openingCurly}
-use Rattle.table.specs.Table.{records}
-use Rattle.table.specs.Rules.{mostRecords, verdict}
+use Rattle.records.specs.declared.record.Rec.{Rec}
+use Rattle.records.specs.Kinds.{openingRound, openingSquare, openingCurly}
+use Rattle.records.specs.Table.{records}
+use Rattle.conditions.specs.Conditions.{mostRecords}
+use Rattle.table.specs.Rules.{verdict}
 use Rattle.forest.specs.Forest.{Forest, nil, token, node, kids}
 use Rattle.forest.specs.Limits.{Limited}
 use Rattle.forest.proofs.Limits.{admitted-limited}

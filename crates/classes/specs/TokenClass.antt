@@ -5,7 +5,7 @@ use mathlib.Core.Bool.{Bool, cond, not, _&&_, _||_}
 use mathlib.Core.Option.{Option, none, some}
 use mathlib.Core.List.{List}
 use lib.Dec.{leb, eqb}
-use Rattle.table.specs.Kinds.{tableIdentifier, tableAlias, columnAlias, dataType, nestedDataType, functionCall, tableFunction, identifier, qualifiedName, queryParameterExpression, databaseDefinition, tableDefinition, dictionaryDefinition, expression, comment, bareWord, quotedIdentifier, number, stringToken, hereDoc, plus, arrow}
+use Rattle.records.specs.Kinds.{tableIdentifier, tableAlias, columnAlias, dataType, nestedDataType, functionCall, tableFunction, identifier, qualifiedName, queryParameterExpression, databaseDefinition, tableDefinition, dictionaryDefinition, expression, comment, bareWord, quotedIdentifier, number, stringToken, hereDoc, plus, arrow}
 use Rattle.lent.specs.Text.{text}
 use Rattle.classes.specs.declared.token_class.TokenClass.{TokenClass}
 use Rattle.classes.specs.declared.token_class.TokenClass.the-variants.{Keyword, Function, StringLiteral, Number, Comment, Operator, Variable, TypeName, Parameter, Property, Unclassed}

@@ -4,8 +4,8 @@
 use Prim.Native.Nat.{ℕ}
 use mathlib.Core.List.{List, []}
 use lib.Dec.{eqb}
-use Rattle.table.specs.declared.record.Rec.{Rec}
-use Rattle.table.specs.Kinds.{withClause, subqueryExpression}
+use Rattle.records.specs.declared.record.Rec.{Rec}
+use Rattle.records.specs.Kinds.{withClause, subqueryExpression}
 use Rattle.lent.specs.Fit32.{AllFit32}
 use Rattle.lent.proofs.Fit32.{fit-lists, fit-chosen}
 use Rattle.forest.specs.Forest.{Forest, nil, token, node}

@@ -7,8 +7,8 @@ use mathlib.Core.List.{List, [], _++_, map, append-nil}
 use native.Mathlib.Omega.{arith}
 use borrow.Author.Tests.{eqb-true, eqb-false, leb-true, eq-eqb, ne-eqb, le-leb}
 use lib.Dec.{eqb}
-use Rattle.table.specs.Kinds.{lastNode, isNode, withClause, selectClause, fromClause, joinClause, subqueryExpression}
-use Rattle.table.specs.Table.{count, kindAt, recordAt, records, part}
+use Rattle.records.specs.Kinds.{lastNode, isNode, withClause, selectClause, fromClause, joinClause, subqueryExpression}
+use Rattle.records.specs.Table.{count, kindAt, recordAt, records, part}
 use Rattle.forest.specs.Forest.{Forest, nil, token, node, kids, stretchEnd}
 use Rattle.forest.proofs.Laws.{head-part}
 use Rattle.tables.specs.declared.pending.Pending.the-variants.{Nothing}
@@ -19,7 +19,7 @@ use Rattle.collection.specs.Collection.{nodeGives, collected, collection
 use Rattle.tables.specs.Tables.{Listing, tableReading}
 use Rattle.tables.specs.inner.Rows.{rowsOf}
 use Rattle.collection.specs.inner.Rows.{ownRows}
-use Rattle.table.proofs.Fields.{kind-of, kind-yes, kind-no}
+use Rattle.records.proofs.Fields.{kind-of, kind-yes, kind-no}
 
 -- ---- collection, of any list
 

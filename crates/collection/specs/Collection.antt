@@ -5,14 +5,14 @@ use Prim.Native.Nat.{ℕ}
 use mathlib.Core.Bool.{cond, _||_}
 use mathlib.Core.List.{List, [], _++_}
 use lib.Dec.{eqb}
-use Rattle.table.specs.declared.record.Rec.{Rec}
-use Rattle.table.specs.Kinds.{withClause, selectClause, fromClause, joinClause, subqueryExpression}
+use Rattle.records.specs.declared.record.Rec.{Rec}
+use Rattle.records.specs.Kinds.{withClause, selectClause, fromClause, joinClause, subqueryExpression}
 use Rattle.forest.specs.Forest.{Forest, nil, token, node, kids, stretchEnd}
 use Rattle.names.specs.declared.names.NameBinding.{NameBinding}
 use Rattle.tables.specs.declared.pending.Pending.the-variants.{Nothing}
 use Rattle.names.specs.Bindings.{withItems, selectAliases}
 use Rattle.tables.specs.Tables.{Listing, tableReading}
-use Rattle.table.specs.Table.{recordAt, records, part}
+use Rattle.records.specs.Table.{recordAt, records, part}
 
 -- ---- collection, of a list whose entries a node of kind k with these children gives as its own part: `own k below`
 

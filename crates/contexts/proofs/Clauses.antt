@@ -7,8 +7,8 @@ use mathlib.Core.List.{List}
 use native.Mathlib.Omega.{arith}
 use borrow.Author.Tests.{le-leb, lt-leb, lt-ltb, le-ltb}
 use lib.ListN.{drop}
-use Rattle.table.specs.Kinds.{lastNode}
-use Rattle.table.specs.Table.{recordBytes, count, kindAt, recordAt, records}
+use Rattle.records.specs.Kinds.{lastNode}
+use Rattle.records.specs.Table.{recordBytes, count, kindAt, recordAt, records}
 use Rattle.forest.specs.Forest.{kids, Child}
 use Rattle.forest.proofs.Walks.{walk-here, walk-at-node, walk-on}
 use Rattle.forest.proofs.Laws.{node-or-token}

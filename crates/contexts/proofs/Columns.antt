@@ -1,7 +1,7 @@
 -- A column, where the reading is dotted.
 -- Assumes nothing.
 use mathlib.Core.Path.{_≡_}
-use Rattle.table.specs.declared.range.Range.{Range}
+use Rattle.records.specs.declared.range.Range.{Range}
 use Rattle.tokens.specs.declared.last_token.Name.{Name}
 use Rattle.tokens.specs.declared.last_token.Name.the-variants.{Nameless, Named}
 use Rattle.contexts.specs.declared.context.CursorContext.{CursorContext}

@@ -8,11 +8,11 @@ use mathlib.Core.List.{List, [], _∷_}
 use native.Mathlib.Omega.{arith}
 use lib.Dec.{ltb, eqb}
 use Rattle.lent.specs.Fit32.{Fit32}
-use Rattle.table.specs.declared.record.Rec.{Rec}
-use Rattle.table.specs.declared.range.Range.{Range}
-use Rattle.table.specs.Kinds.{bareWord, comma, openingRound, identifier}
-use Rattle.table.specs.Rules.{mostRecords}
-use Rattle.table.specs.Table.{count}
+use Rattle.records.specs.declared.record.Rec.{Rec}
+use Rattle.records.specs.declared.range.Range.{Range}
+use Rattle.records.specs.Kinds.{bareWord, comma, openingRound, identifier}
+use Rattle.conditions.specs.Conditions.{mostRecords}
+use Rattle.records.specs.Table.{count}
 use Rattle.forest.specs.Forest.{Forest, nil, token, node, inside}
 use Rattle.forest.specs.Limits.{WithinSource, AllWithinSource, Limited}
 use Rattle.forest.proofs.Limits.{reached-near, reached-few}

@@ -7,9 +7,9 @@ use mathlib.Core.Bool.{Bool, true, false, cond, _||_}
 use mathlib.Core.List.{List, [], _∷_}
 use mathlib.Core.Option.{Option, none, some}
 use lib.Dec.{ltb, eqb}
-use Rattle.table.specs.declared.record.Rec.{Rec}
-use Rattle.table.specs.declared.range.Range.{Range}
-use Rattle.table.specs.Kinds.{selectClause, fromClause, prewhereClause, whereClause, groupByClause, havingClause, orderByClause, settingsClause, formatClause}
+use Rattle.records.specs.declared.record.Rec.{Rec}
+use Rattle.records.specs.declared.range.Range.{Range}
+use Rattle.records.specs.Kinds.{selectClause, fromClause, prewhereClause, whereClause, groupByClause, havingClause, orderByClause, settingsClause, formatClause}
 use Rattle.forest.specs.Forest.{Forest, inside}
 use Rattle.tokens.specs.declared.last_token.Name.{Name}
 use Rattle.tokens.specs.declared.last_token.Name.the-variants.{Nameless, Named}

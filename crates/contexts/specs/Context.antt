@@ -2,14 +2,14 @@
 -- Definitions only.
 use Prim.Native.Nat.{ℕ, _*_, _<_}
 use mathlib.Core.List.{List, [], _∷_}
-use Rattle.table.specs.declared.range.Range.{Range}
+use Rattle.records.specs.declared.range.Range.{Range}
 use Rattle.tokens.specs.declared.last_token.Name.{Name}
 use Rattle.tokens.specs.declared.last_token.Name.the-variants.{Nameless, Named}
 use Rattle.contexts.specs.declared.context.CursorContext.{CursorContext}
 use Rattle.contexts.specs.declared.context.CursorContext.the-variants.{SelectExpression, TableReference, ColumnOfTable, Expression, SettingName, EngineName, FormatName, DataType, CodecName, FunctionArgument, StatementStart, Unknown}
 use Rattle.contexts.specs.declared.context.Coded.{Coded}
 use Rattle.lent.specs.Numbers.{numberBytes}
-use Rattle.table.specs.Ranges.{absent, absentNumber}
+use Rattle.records.specs.Ranges.{absent, absentNumber}
 
 -- ---- the numbers and values of the contexts
 

@@ -4,8 +4,8 @@ use Prim.Native.Nat.{ℕ}
 use mathlib.Core.Bool.{Bool, true, cond, _||_}
 use mathlib.Core.List.{List, [], _∷_}
 use lib.Dec.{eqb}
-use Rattle.table.specs.declared.record.Rec.{Rec}
-use Rattle.table.specs.Kinds.{file, queryList, error, insertStatement, selectClause, fromClause, joinClause, prewhereClause, whereClause, groupByClause, havingClause, orderByClause, settingsClause, settingList, engineClause, formatClause, insertFormatClause, joinConstraint, tableIdentifier, columnDefinition, columnTypeDefinition, columnCodec, dataType, dataTypeParameters, functionCall, aggregateFunction}
+use Rattle.records.specs.declared.record.Rec.{Rec}
+use Rattle.records.specs.Kinds.{file, queryList, error, insertStatement, selectClause, fromClause, joinClause, prewhereClause, whereClause, groupByClause, havingClause, orderByClause, settingsClause, settingList, engineClause, formatClause, insertFormatClause, joinConstraint, tableIdentifier, columnDefinition, columnTypeDefinition, columnCodec, dataType, dataTypeParameters, functionCall, aggregateFunction}
 use Rattle.forest.specs.Forest.{Forest, inside}
 use Rattle.tokens.specs.declared.last_token.Name.{Name}
 use Rattle.tokens.specs.declared.last_token.Name.the-variants.{Nameless, Named}

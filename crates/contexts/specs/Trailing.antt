@@ -5,8 +5,8 @@ use mathlib.Core.Bool.{cond}
 use mathlib.Core.List.{List, [], _∷_}
 use mathlib.Core.Option.{Option, none, some}
 use lib.Dec.{leb, ltb, eqb}
-use Rattle.table.specs.declared.record.Rec.{Rec}
-use Rattle.table.specs.Kinds.{selectClause, fromClause, prewhereClause, whereClause, groupByClause, havingClause, orderByClause, settingsClause, formatClause}
+use Rattle.records.specs.declared.record.Rec.{Rec}
+use Rattle.records.specs.Kinds.{selectClause, fromClause, prewhereClause, whereClause, groupByClause, havingClause, orderByClause, settingsClause, formatClause}
 use Rattle.forest.specs.Forest.{Forest, nil, token, node, inside}
 use Rattle.tokens.specs.declared.last_token.Name.the-variants.{Nameless}
 use Rattle.contexts.specs.declared.context.CursorContext.the-variants.{SelectExpression, TableReference, Expression, SettingName, FormatName}

@@ -1,6 +1,6 @@
 // What is being typed, as a context and as numbers.
-use table::range::ABSENT;
-use table::range::Range;
+use records::range::ABSENT;
+use records::range::Range;
 use tokens::last_token::Name;
 ghost use mathlib.Core.Path.{_≡_};
 ghost use Rattle.contexts.specs.Context.{rangeOf, referenceNumber, code, coded};

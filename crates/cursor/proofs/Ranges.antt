@@ -11,10 +11,10 @@ use mathlib.Core.Option.{Option, none, some}
 use mathlib.Core.Logic.{⊎-elim}
 use native.Mathlib.Omega.{arith}
 use lib.Dec.{ltb, eqb}
-use Rattle.table.specs.declared.record.Rec.{Rec}
+use Rattle.records.specs.declared.record.Rec.{Rec}
 use Rattle.lent.specs.declared.verdict.Verdict.the-variants.{Admitted}
-use Rattle.table.specs.Kinds.{lastNode, file, bareWord, openingRound, identifier, selectClause, fromClause, prewhereClause, whereClause, groupByClause, havingClause, orderByClause, settingsClause, formatClause, joinConstraint}
-use Rattle.table.specs.Table.{count, kindAt, startAt, recordAt, run, from}
+use Rattle.records.specs.Kinds.{lastNode, file, bareWord, openingRound, identifier, selectClause, fromClause, prewhereClause, whereClause, groupByClause, havingClause, orderByClause, settingsClause, formatClause, joinConstraint}
+use Rattle.records.specs.Table.{count, kindAt, startAt, recordAt, run, from}
 use Rattle.forest.specs.Forest.{Forest, nil, token, node, level, kids, inside}
 use Rattle.table.specs.Rules.{verdict}
 use Rattle.forest.specs.Sense.{Tidy}

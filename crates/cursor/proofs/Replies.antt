@@ -8,7 +8,7 @@ use borrow.Author.Tests.{eq-eqb, ne-eqb}
 use lib.ListN.{drop}
 use Rattle.lent.specs.declared.verdict.Verdict.{Verdict}
 use Rattle.lent.specs.declared.verdict.Verdict.the-variants.{Admitted, Refused}
-use Rattle.table.specs.Table.{recordBytes, count, kindAt, records}
+use Rattle.records.specs.Table.{recordBytes, count, kindAt, records}
 use Rattle.forest.specs.Forest.{kids}
 use Rattle.path.specs.declared.gathered.Gathered.{Gathered}
 use Rattle.contexts.specs.declared.context.CursorContext.{CursorContext}

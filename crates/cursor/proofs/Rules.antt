@@ -7,9 +7,9 @@ use mathlib.Core.Bool.{Bool, true, false, cond}
 use mathlib.Core.List.{List, [], _∷_}
 use mathlib.Core.Option.{Option, none, some}
 use lib.Dec.{eqb}
-use Rattle.table.specs.declared.record.Rec.{Rec}
-use Rattle.table.specs.Kinds.{joinConstraint}
-use Rattle.table.specs.Table.{kindAt}
+use Rattle.records.specs.declared.record.Rec.{Rec}
+use Rattle.records.specs.Kinds.{joinConstraint}
+use Rattle.records.specs.Table.{kindAt}
 use Rattle.forest.specs.Forest.{Forest, inside}
 use Rattle.forest.specs.Descent.{along}
 use Rattle.path.specs.declared.gathered.Next.{Next}

@@ -4,23 +4,23 @@ use contexts::context::ContextReply;
 use contexts::context::CursorContext;
 use contexts::path_rules::rule_context;
 use contexts::trailing::check_trailing_clause;
+use descent::descent::find_node_path;
+use descent::descent::path_from;
 use forest::stretch::rest_from;
 use lent::text::text_of;
 use lent::verdict::Verdict;
 use path::gathered::Gathered;
-use path::path::find_node_path;
-use path::path::path_from;
 use path::rules::NO_RULE;
+use readings::last_token::token_before_offset;
+use records::kinds::FILE;
+use records::record::kind_at;
 use table::check::check;
-use table::kinds::FILE;
-use table::record::kind_at;
 use tokens::last_token::Name;
 use tokens::last_token::is_byte;
-use tokens::last_token::token_before_offset;
 ghost use mathlib.Core.Path.{_≡_};
 ghost use Prim.Native.Nat.{_<_};
 ghost use lib.ListN.{length};
-ghost use Rattle.table.specs.Table.{count};
+ghost use Rattle.records.specs.Table.{count};
 ghost use Rattle.lent.specs.Numbers.{wordLimit};
 ghost use Rattle.table.specs.Rules.{verdict};
 ghost use Rattle.forest.specs.inner.Ordered.{Ordered};
@@ -72,7 +72,7 @@ fn analyze_path(table: &[u8], source: &[u8], offset: usize, path: Gathered) -> C
 }
 
 // The context, for a table that is admitted.
-fn context_at(table: &[u8], source: &[u8], offset: usize) -> CursorContext
+pub fn context_at(table: &[u8], source: &[u8], offset: usize) -> CursorContext
     requires { ⌜ (0 < count (now table)) × (count (now table) < wordLimit) × Ordered (now table) ⌝ }
     ensures { λ r. ⌜ r ≡ contextAt (now (source .entry)) (now (table .entry)) offset ⌝ }
 {

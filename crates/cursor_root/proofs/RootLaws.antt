@@ -11,14 +11,15 @@ use mathlib.Core.Option.{Option, none, some}
 use native.Mathlib.Omega.{arith}
 use native.Mathlib.Nat.{zero-add}
 use borrow.Author.Tests.{lt-ltb, le-leb}
-use Rattle.table.specs.declared.record.Rec.{Rec}
+use Rattle.records.specs.declared.record.Rec.{Rec}
 use Rattle.lent.specs.declared.verdict.Verdict.{Verdict}
 use Rattle.lent.specs.declared.verdict.Verdict.the-variants.{Admitted}
-use Rattle.table.specs.Kinds.{lastNode}
-use Rattle.table.specs.Table.{count, kindAt, depthAt, recordAt, run, from, records}
+use Rattle.records.specs.Kinds.{lastNode}
+use Rattle.records.specs.Table.{count, kindAt, depthAt, recordAt, run, from, records}
 use Rattle.forest.specs.Forest.{Forest, nil, token, node, level, kids}
 use Rattle.forest.specs.Descent.{path, pathOf}
-use Rattle.table.specs.Rules.{mostRecords, mostDepth, noRoot, verdict}
+use Rattle.conditions.specs.Conditions.{mostRecords, mostDepth, noRoot}
+use Rattle.table.specs.Rules.{verdict}
 use Rattle.forest.specs.Sense.{treeOf}
 use Rattle.lent.proofs.Cases.{lt-or-le}
 use Rattle.forest.proofs.Laws.{node-or-token, level-shallow, level-deep, level-token, level-node, from-cons}
@@ -26,7 +27,7 @@ use Rattle.table.proofs.Checks.{root-known, root-admitted}
 use Rattle.forest.proofs.Sense.{admitted-tidy}
 use Rattle.statement.specs.declared.statement.Enclosing.{Enclosing}
 use Rattle.statement.specs.declared.statement.Enclosing.the-variants.{Outside, Record}
-use Rattle.table.specs.Ranges.{holds}
+use Rattle.records.specs.Ranges.{holds}
 use Rattle.statement.specs.Statement.{itself, isStatement, orElse, firstFind, enclosingAt}
 use Rattle.path.specs.Path.{pathAt, deepestOr, deepest, isSubquery}
 use Rattle.cursor_root.specs.Root.{statementOr, rootOf, rootAt}

@@ -1,13 +1,13 @@
 // The root whose names are offered at the cursor.
+use descent::descent::find_node_path;
 use lent::verdict::Verdict;
-use path::path::find_node_path;
 use statement::statement::Enclosing;
 use statement::statement::find_enclosing_statement;
 use table::check::check;
 ghost use mathlib.Core.Path.{_≡_};
 ghost use Prim.Native.Nat.{_<_};
 ghost use lib.ListN.{length};
-ghost use Rattle.table.specs.Table.{count};
+ghost use Rattle.records.specs.Table.{count};
 ghost use Rattle.lent.specs.Numbers.{wordLimit};
 ghost use Rattle.table.specs.Rules.{verdict};
 ghost use Rattle.cursor_root.specs.Root.{rootAt, rootReply};

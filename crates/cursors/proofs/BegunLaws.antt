@@ -12,12 +12,12 @@ use borrow.Author.Tests.{eqb-true}
 use lib.Dec.{eqb}
 use lib.ListN.{length, getD, set, replicate, length-set}
 use lib.Seq.{getD-set-same, getD-set-other}
-use Rattle.table.specs.Table.{count, kindAt, startAt, endAt, recordAt}
+use Rattle.records.specs.Table.{count, kindAt, startAt, endAt, recordAt}
 use Rattle.lent.specs.Numbers.{word}
-use Rattle.table.specs.Kinds.{isNode}
-use Rattle.table.specs.Ranges.{spans}
+use Rattle.records.specs.Kinds.{isNode}
+use Rattle.records.specs.Ranges.{spans}
 use Rattle.forest.specs.Forest.{Child}
-use Rattle.table.specs.Rules.{mostOffsets, offsetBytes}
+use Rattle.conditions.specs.Conditions.{mostOffsets, offsetBytes}
 use Rattle.lent.proofs.Cases.{eq-or-not}
 use Rattle.path.specs.inner.Starts.{Starts}
 use Rattle.path.proofs.StartLaws.{starts-first, starts-on}

@@ -12,9 +12,11 @@ use native.Mathlib.Nat.{mul-div-cancel}
 use borrow.Author.Tests.{ltb-false}
 use lib.Dec.{ltb}
 use lib.ListN.{length, length-map}
-use Rattle.table.specs.Table.{count}
+use Rattle.records.specs.Table.{count}
 use Rattle.lent.specs.Numbers.{word, numberBytes}
-use Rattle.table.specs.Rules.{mostOffsets, offsetBytes, badLength, tooLong, badOffsets, rulesFrom, offsetRules, verdict, offsetVerdict}
+use Rattle.conditions.specs.Conditions.{mostOffsets, offsetBytes, badLength, tooLong, badOffsets}
+use Rattle.refusals.specs.ByRecord.{rulesFrom}
+use Rattle.table.specs.Rules.{offsetRules, verdict, offsetVerdict}
 use Rattle.lent.specs.Verdicts.{first}
 use Rattle.lent.specs.declared.verdict.Verdict.{Verdict}
 use Rattle.lent.specs.declared.verdict.Verdict.the-variants.{Admitted, Refused}

@@ -4,7 +4,7 @@ use Prim.Native.Nat.{ℕ, zero, suc, _+_, _*_, _/_}
 use mathlib.Core.List.{List, [], _∷_, map}
 use lib.ListN.{length}
 use Rattle.lent.specs.Numbers.{word}
-use Rattle.table.specs.Rules.{offsetBytes}
+use Rattle.conditions.specs.Conditions.{offsetBytes}
 use Rattle.contexts.specs.declared.context.CursorContext.{CursorContext}
 use Rattle.cursor.specs.CursorContext.{contextAt}
 

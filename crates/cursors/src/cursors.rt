@@ -1,5 +1,7 @@
 // The contexts at all cursors of a shared page (document 02, §2): one call, one check, and record 0's children read once for all.
 use crate::starts::begin_all;
+use conditions::whole::MOST_OFFSETS;
+use conditions::whole::OFFSET_BYTES;
 use contexts::context::code_of;
 use cursor::cursor_context::context_from;
 use forest::stretch::child_from;
@@ -9,8 +11,6 @@ use lent::number::NUMBER_BYTES;
 use lent::number::word_at;
 use lent::verdict::NO_ROOM;
 use lent::verdict::Verdict;
-use table::check::MOST_OFFSETS;
-use table::check::OFFSET_BYTES;
 use table::check::check_offsets;
 ghost use mathlib.Core.List.{[]};
 ghost use lib.ListN.{length};

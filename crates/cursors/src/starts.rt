@@ -1,19 +1,19 @@
 // Where each cursor's search among record 0's children may begin: one walk over the children for all cursors.
+use conditions::whole::MOST_OFFSETS;
+use conditions::whole::OFFSET_BYTES;
 use forest::stretch::child_from;
 use lent::number::word_at;
 use path::rules::chosen;
-use table::check::MOST_OFFSETS;
-use table::check::OFFSET_BYTES;
-use table::range::is_holder;
-use table::record::count_of;
+use records::range::is_holder;
+use records::record::count_of;
 ghost use mathlib.Core.Path.{_≡_};
 ghost use mathlib.Core.Bool.{not, _&&_};
 ghost use Prim.Native.Nat.{_+_, _<_};
 ghost use lib.Dec.{eqb};
 ghost use lib.ListN.{length};
-ghost use Rattle.table.specs.Table.{count, kindAt, startAt, endAt};
-ghost use Rattle.table.specs.Kinds.{isNode};
-ghost use Rattle.table.specs.Ranges.{spans};
+ghost use Rattle.records.specs.Table.{count, kindAt, startAt, endAt};
+ghost use Rattle.records.specs.Kinds.{isNode};
+ghost use Rattle.records.specs.Ranges.{spans};
 ghost use Rattle.forest.specs.Forest.{Child};
 ghost use Rattle.cursors.specs.inner.Ready.{Ready, Begun};
 

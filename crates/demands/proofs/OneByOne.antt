@@ -7,7 +7,7 @@ use mathlib.Core.List.{List, [], _∷_, _++_, map, append-assoc, append-nil}
 use native.Mathlib.Omega.{arith}
 use lib.ListN.{length, length-map, getD, take, drop}
 use lib.Seq.{drop-append-add, take-append-seam}
-use Rattle.table.specs.Table.{count}
+use Rattle.records.specs.Table.{count}
 use Rattle.lent.specs.Lists.{rowBytes, listBytes}
 use Rattle.table.specs.Exactly.{Broken}
 use Rattle.lent.proofs.Writes.{length-row}

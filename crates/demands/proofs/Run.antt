@@ -13,13 +13,13 @@ use native.Mathlib.Nat.{zero-add}
 use borrow.Author.Tests.{le-leb, lt-leb, leb-true}
 use lib.ListN.{length}
 use lib.Dec.{leb}
-use Rattle.table.specs.declared.record.Rec.{Rec}
+use Rattle.records.specs.declared.record.Rec.{Rec}
 use Rattle.lent.specs.declared.verdict.Verdict.the-variants.{Admitted}
-use Rattle.table.specs.Kinds.{lastNode, selectStatement, describeStatement}
-use Rattle.table.specs.Table.{kindAt, recordAt, run, from}
+use Rattle.records.specs.Kinds.{lastNode, selectStatement, describeStatement}
+use Rattle.records.specs.Table.{kindAt, recordAt, run, from}
 use Rattle.forest.specs.Forest.{Forest, nil, token, node}
 use Rattle.table.specs.Rules.{verdict}
-use Rattle.table.specs.Ranges.{holds}
+use Rattle.records.specs.Ranges.{holds}
 use Rattle.forest.specs.Sense.{Tidy, treeOf}
 use Rattle.forest.specs.Places.{Place, places, nodesOf, selves, nodeRecords}
 use Rattle.lent.proofs.Cases.{eq-or-not, both}

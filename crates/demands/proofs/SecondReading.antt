@@ -7,7 +7,7 @@ use mathlib.Core.Logic.{⊎-elim}
 use native.Mathlib.Omega.{arith}
 use lib.ListN.{length}
 use Rattle.lent.specs.declared.verdict.Verdict.the-variants.{Admitted}
-use Rattle.table.specs.Table.{count}
+use Rattle.records.specs.Table.{count}
 use Rattle.table.specs.Rules.{verdict}
 use Rattle.table.proofs.Exactly.{admitted-exactly}
 use Rattle.lent.proofs.Cases.{lt-or-le}

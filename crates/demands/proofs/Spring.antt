@@ -5,7 +5,7 @@ use mathlib.Core.Path.{_≡_, refl, ap, _∙_}
 use mathlib.Core.List.{List, map, map-append, List·Memᴰ, Memᴰ·of-map}
 use lib.ListN.{length}
 use Rattle.lent.specs.declared.verdict.Verdict.the-variants.{Admitted}
-use Rattle.table.specs.Table.{count}
+use Rattle.records.specs.Table.{count}
 use Rattle.table.specs.Rules.{verdict}
 use Rattle.forest.proofs.Sense.{admitted-tidy}
 use Rattle.names.specs.Bindings.{bindingRow}

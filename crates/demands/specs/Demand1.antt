@@ -9,7 +9,7 @@ use mathlib.Core.List.{List}
 use mathlib.Core.Logic.{_⊎_, _↔_}
 use lib.ListN.{length}
 use lib.Dec.{ltb, eqb}
-use Rattle.table.specs.Table.{count, kindAt}
+use Rattle.records.specs.Table.{count, kindAt}
 use Rattle.table.specs.Exactly.{Node, BadOffsets, Broken, place}
 use Rattle.replies.specs.Reply.{packed, answered}
 use Rattle.demands.specs.declared.Question.{Question}

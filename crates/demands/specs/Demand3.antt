@@ -9,7 +9,7 @@ use mathlib.Core.Bool.{cond}
 use mathlib.Core.List.{List}
 use lib.ListN.{length}
 use Rattle.lent.specs.declared.verdict.Verdict.the-variants.{Admitted}
-use Rattle.table.specs.Table.{records}
+use Rattle.records.specs.Table.{records}
 use Rattle.table.specs.Rules.{verdict}
 use Rattle.forest.specs.Places.{Place, nodesOf, selves, nodeRecords, sum}
 use Rattle.roots.specs.Reach.{isRoot, isTableName, rootIs, reaches}

@@ -8,7 +8,7 @@ use Prim.Native.Nat.{ℕ}
 use mathlib.Core.Path.{_≡_}
 use mathlib.Core.Bool.{true}
 use mathlib.Core.List.{List, [], _∷_, _++_, map}
-use Rattle.table.specs.Table.{kindAt, recordAt, records}
+use Rattle.records.specs.Table.{kindAt, recordAt, records}
 use Rattle.forest.specs.Forest.{Forest, kids}
 use Rattle.brackets.specs.Brackets.{indexOf, openerRow}
 use Rattle.scope.specs.Classes.{classRow}

@@ -8,13 +8,15 @@ use mathlib.Core.Bool.{false}
 use mathlib.Core.List.{List, [], _∷_, _++_, map, List·Memᴰ}
 use lib.ListN.{length}
 use Rattle.lent.specs.declared.verdict.Verdict.the-variants.{Admitted}
-use Rattle.table.specs.Kinds.{file, selectStatement, selectClause, fromClause, whereClause, subqueryExpression, tableIdentifier, tableAlias, columnReference, otherToken, bareWord, openingRound, closingRound}
+use Rattle.records.specs.Kinds.{file, selectStatement, selectClause, fromClause, whereClause, subqueryExpression, tableIdentifier, tableAlias, columnReference, otherToken, bareWord, openingRound, closingRound}
 use Rattle.lent.specs.Numbers.{word}
-use Rattle.table.specs.Table.{kindAt, recordAt, run, from}
+use Rattle.records.specs.Table.{kindAt, recordAt, run, from}
 use Rattle.forest.specs.Forest.{level, kids, extent, stretchEnd}
 use Rattle.forest.specs.Descent.{path, pathOf, along}
 use Rattle.forest.specs.Tokens.{tokensOf, only}
-use Rattle.table.specs.Rules.{rulesFrom, misplaced, nearest, lastEnd, badSpan, verdict}
+use Rattle.conditions.specs.Conditions.{misplaced, nearest, lastEnd, badSpan}
+use Rattle.refusals.specs.ByRecord.{rulesFrom}
+use Rattle.table.specs.Rules.{verdict}
 use Rattle.lent.specs.Text.{bytesOf, upper, text, says}
 use Rattle.table.specs.worked.Worked.{rec, child}
 use Rattle.names.specs.Names.{isAs, isPart, isName, direct, unquoted, nameOf, binding, lastNamed}
@@ -37,7 +39,7 @@ use Rattle.seen.specs.Seen.{items, itemsBefore, boundBy, ownSeen}
 use Rattle.offers.specs.WithNames.{seenOfAll, offeredIn}
 use Rattle.demands.specs.declared.Question.the-variants.{CursorContext, TableAliases, TableRefs, WithNamesAt, TableAliasesAt, ColumnAliasesAt, TableRefsAt}
 use Rattle.demands.specs.Questions.{Asked, asked, Said, number, rows, list, matter}
-use Rattle.table.specs.Ranges.{absentNumber}
+use Rattle.records.specs.Ranges.{absentNumber}
 
 -- ---- the theorem's statement
 

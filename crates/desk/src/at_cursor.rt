@@ -1,8 +1,10 @@
-// The questions at an offset, for C: the context, that of many offsets at once, the enclosing statement, the cursor's root and its four lists.
+// The questions at an offset, for C: the context, that of many offsets at once, the enclosing statement, the cursor's root and its four lists; and all of
+// it in one call.
 use contexts::context::ContextReply;
 use cursor::cursor_context::cursor_context;
 use cursor_root::root::cursor_root;
 use cursors::cursors::cursor_contexts;
+use everything::everything::everything_at;
 use offers::offers::column_aliases_at;
 use offers::offers::table_aliases_at;
 use offers::offers::table_refs_at;
@@ -25,8 +27,9 @@ ghost use Rattle.contexts.specs.Context.{contextRow};
 ghost use Rattle.cursor.specs.CursorContext.{contextAt};
 ghost use Rattle.cursors.specs.Cursors.{contextsAt};
 ghost use Rattle.cursor_root.specs.Root.{rootAt, rootReply};
-ghost use Rattle.replies.specs.Reply.{statementNumber, rootNumber, AnswersC};
+ghost use Rattle.replies.specs.Reply.{listReply, statementNumber, rootNumber, AnswersC};
 ghost use Rattle.offers.specs.WithNames.{withNamesAt};
+ghost use Rattle.everything.specs.Everything.{buffers, Leaves, everythingReply};
 
 // The statement that encloses the offset. High half of an answer: its record, or 4294967295 for none.
 #[no_mangle]
@@ -131,4 +134,35 @@ pub extern "C" fn desk_cursor_contexts(
         (contextsAt (now (source .entry)) (now (table .entry)) (now (offsets .entry))) (now (out .entry)) r (now (out .exit)) ⌝ }
 {
     list_reply(cursor_contexts(table, source, offsets, out))
+}
+
+// Everything at the offset in one call: the context, the root and how many entries each list has as one entry, and the four lists, each in its own
+// buffer. High half of an answer: 1.
+#[no_mangle]
+pub extern "C" fn desk_everything_at(
+    table: &[u8],
+    source: &[u8],
+    offset: u32,
+    out: &mut [u8],
+    names: &mut [u8],
+    aliases: &mut [u8],
+    columns: &mut [u8],
+    refs: &mut [u8],
+) -> u64
+    ensures { λ r. ⌜ r ≡ listReply (everythingReply (now (source .entry)) (now (table .entry)) offset
+        (buffers (now (out .entry)) (now (names .entry)) (now (aliases .entry)) (now (columns .entry)) (now (refs .entry)))) ⌝ }
+    ensures { λ _. ⌜ Leaves (now (source .entry)) (now (table .entry)) offset
+        (buffers (now (out .entry)) (now (names .entry)) (now (aliases .entry)) (now (columns .entry)) (now (refs .entry)))
+        (buffers (now (out .exit)) (now (names .exit)) (now (aliases .exit)) (now (columns .exit)) (now (refs .exit))) ⌝ }
+{
+    list_reply(everything_at(
+        table,
+        source,
+        offset as usize,
+        out,
+        names,
+        aliases,
+        columns,
+        refs,
+    ))
 }

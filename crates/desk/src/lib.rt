@@ -3,8 +3,8 @@
 pub mod at_cursor;
 
 use above::above::records_above;
-use brackets::bracket_matching::bracket_hint;
 use brackets::bracket_matching::openers_left;
+use hint::hint::bracket_hint;
 use replies::reply::hint_reply;
 use replies::reply::list_reply;
 use replies::reply::verdict_reply;

@@ -12,9 +12,10 @@ use borrow.Author.Tests.{lt-ltb, le-ltb, eq-eqb, ne-eqb}
 use lib.ListN.{length}
 use Rattle.lent.specs.declared.verdict.Verdict.{Verdict}
 use Rattle.lent.specs.declared.verdict.Verdict.the-variants.{Admitted}
-use Rattle.table.specs.Table.{count, depthAt, parentAt}
+use Rattle.records.specs.Table.{count, depthAt, parentAt}
 use Rattle.forest.specs.Forest.{stretchEnd}
-use Rattle.table.specs.Rules.{nearest, verdict}
+use Rattle.conditions.specs.Conditions.{nearest}
+use Rattle.table.specs.Rules.{verdict}
 use Rattle.forest.specs.Sense.{Tidy}
 use Rattle.forest.specs.Above.{aboveAmong, above}
 use Rattle.forest.specs.inner.Climbing.{Climbs}

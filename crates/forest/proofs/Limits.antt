@@ -11,11 +11,12 @@ use native.Mathlib.Omega.{arith}
 use native.Mathlib.Nat.{zero-add}
 use lib.Dec.{ltb}
 use lib.ListN.{length}
-use Rattle.table.specs.declared.record.Rec.{Rec}
+use Rattle.records.specs.declared.record.Rec.{Rec}
 use Rattle.lent.specs.declared.verdict.Verdict.the-variants.{Admitted}
-use Rattle.table.specs.Kinds.{isNode, lastNode}
-use Rattle.table.specs.Table.{count, kindAt, depthAt, recordAt, run, from, records, part}
-use Rattle.table.specs.Rules.{mostRecords, verdict}
+use Rattle.records.specs.Kinds.{isNode, lastNode}
+use Rattle.records.specs.Table.{count, kindAt, depthAt, recordAt, run, from, records, part}
+use Rattle.conditions.specs.Conditions.{mostRecords}
+use Rattle.table.specs.Rules.{verdict}
 use Rattle.table.specs.Exactly.{Token}
 use Rattle.lent.proofs.Cases.{lt-or-le}
 use Rattle.forest.specs.Forest.{Forest, nil, token, node, level, kids, inside, stretchEnd}

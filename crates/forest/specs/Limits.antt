@@ -3,8 +3,8 @@
 -- Definitions only; that an admitted table's tree keeps them is `admitted-limited` in proofs/Limits.antt.
 use Prim.Native.Nat.{_≤_, _<_}
 use mathlib.Core.List.{List, [], _∷_}
-use Rattle.table.specs.declared.record.Rec.{Rec}
-use Rattle.table.specs.Rules.{mostRecords, mostSource}
+use Rattle.records.specs.declared.record.Rec.{Rec}
+use Rattle.conditions.specs.Conditions.{mostRecords, mostSource}
 use Rattle.forest.specs.Forest.{Forest, nil, token, node}
 
 -- a range within the longest source

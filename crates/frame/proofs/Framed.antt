@@ -4,7 +4,7 @@ use Prim.Native.Nat.{ℕ, _*_, _≤_}
 use mathlib.Core.Path.{_≡_}
 use mathlib.Core.List.{List}
 use lib.ListN.{take}
-use Rattle.table.specs.Table.{recordBytes}
+use Rattle.records.specs.Table.{recordBytes}
 use Rattle.lines.specs.Lines.{Line, mostBytes, mostLines}
 use Rattle.print.specs.Printed.{refusalLine}
 use Rattle.report.specs.Output.{unlessRefused, replied}

@@ -19,7 +19,7 @@ use lib.Dec.{eqb, ltb, leb}
 use lib.ListN.{length, getD, take, drop, set, length-drop, drop-of-length-le}
 use lib.Seq.{sets, sets-eq, drop-cons, take-all, take-at}
 use Rattle.lent.specs.declared.verdict.Verdict.the-variants.{Admitted, Refused}
-use Rattle.table.specs.Table.{recordBytes}
+use Rattle.records.specs.Table.{recordBytes}
 use Rattle.lent.specs.Verdicts.{first}
 use Rattle.lent.specs.Numbers.{numberBytes}
 use Rattle.lent.specs.Lists.{listBytes, put, fill}

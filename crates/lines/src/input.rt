@@ -1,15 +1,14 @@
-// A frame's lines: hexadecimal digits to the source, the offset and the table.
+// A frame's lines, one by one: where it ends, what form it has, and what its hexadecimal digits say.
 use lent::list::put_entry;
 use lent::text::text_of;
-use table::record::RECORD_BYTES;
+use records::record::RECORD_BYTES;
 ghost use mathlib.Core.Path.{_≡_};
-ghost use Prim.Native.Nat.{_+_, _*_, _≤_, _<_};
+ghost use Prim.Native.Nat.{_+_, _≤_, _<_};
 ghost use lib.ListN.{length, drop};
-ghost use lib.Seq.{sets};
 ghost use Rattle.lent.specs.Lists.{put};
-ghost use Rattle.lines.specs.Lines.{lines, isDigit, value, allDigits, isHex, isSource, isNumbers, mostBytes};
-ghost use Rattle.lines.specs.Frame.{hexNumber, pairs, fieldsOf};
-ghost use Rattle.lines.specs.inner.Reading.{lineSpan, lineTo, tableRoom, ReadRecords, ReadFrame};
+ghost use Rattle.lines.specs.Lines.{isDigit, value, allDigits, isHex, isSource, isNumbers};
+ghost use Rattle.lines.specs.Frame.{hexNumber, fieldsOf};
+ghost use Rattle.lines.specs.inner.Reading.{lineSpan, lineTo, tableRoom};
 
 // Refusal 9: a line that is not of the stated form.
 pub const BAD_LINE: u32 = 9;
@@ -26,11 +25,6 @@ pub const MOST_LINES: usize = 1024;
 pub const OFFSET_DIGITS: usize = 8;
 
 pub const RECORD_DIGITS: usize = 28;
-
-// The places of the first record's line and of the last that there may be, counted from 1.
-const RECORD_LINE: usize = 3;
-
-const LAST_LINE: usize = RECORD_LINE + MOST_LINES - 1;
 
 // How many bytes of room the table of a frame has.
 pub const TABLE_ROOM: usize = MOST_LINES * RECORD_BYTES;
@@ -52,7 +46,7 @@ pub enum Frame {
 }
 
 // The value of a digit; of any other byte 0.
-fn value(b: u8) -> usize
+pub fn value(b: u8) -> usize
     ensures { λ r. ⌜ (r ≡ value b) × (r < 16) ⌝ }
 {
     match b {
@@ -84,7 +78,7 @@ fn all_digits(bytes: &[u8]) -> bool
 }
 
 // Where the first line ends: at its LF, or with the text.
-fn line_end(text: &[u8]) -> usize
+pub fn line_end(text: &[u8]) -> usize
     ensures { λ r. ⌜ (r ≡ lineSpan (now (text .entry))) × (r ≤ length (now (text .entry))) ⌝ }
 {
     let mut i = 0;
@@ -98,7 +92,7 @@ fn line_end(text: &[u8]) -> usize
 }
 
 // The text behind a line that ends at byte end.
-fn after_line(text: &[u8], end: usize) -> &[u8]
+pub fn after_line(text: &[u8], end: usize) -> &[u8]
     requires { ⌜ end ≤ length (now text) ⌝ }
     ensures { λ r. ⌜ now r ≡ drop (end + 1) (now (text .entry)) ⌝ }
 {
@@ -118,7 +112,7 @@ fn is_hex(text: &[u8], end: usize) -> bool
 }
 
 // The text's first line is a source: pairs of digits, not too many.
-fn is_source(text: &[u8], end: usize) -> bool
+pub fn is_source(text: &[u8], end: usize) -> bool
     requires { ⌜ end ≤ length (now text) ⌝ }
     ensures { λ r. ⌜ r ≡ isSource (lineTo (now (text .entry)) end) ⌝ }
 {
@@ -126,7 +120,7 @@ fn is_source(text: &[u8], end: usize) -> bool
 }
 
 // The text's first line is n digits.
-fn is_numbers(text: &[u8], end: usize, n: usize) -> bool
+pub fn is_numbers(text: &[u8], end: usize, n: usize) -> bool
     requires { ⌜ end ≤ length (now text) ⌝ }
     ensures { λ r. ⌜ r ≡ isNumbers n (lineTo (now (text .entry)) end) ⌝ }
 {
@@ -147,21 +141,8 @@ pub fn number(digits: &[u8]) -> usize
     v
 }
 
-// Writes the source's bytes, two digits each.
-fn read_source(digits: &[u8], source: &mut [u8])
-    requires { ⌜ length (now digits) ≤ 2 * length (now source) ⌝ }
-    ensures { λ _. ⌜ now (source .exit) ≡ sets (now (source .entry)) 0 (pairs (now (digits .entry))) ⌝ }
-{
-    let n = digits.len() / 2;
-    let mut i = 0;
-    while i < n {
-        source[i] = (value(digits[2 * i]) * 16 + value(digits[2 * i + 1])) as u8;
-        i += 1;
-    }
-}
-
 // Writes a record from byte `at` of the table on.
-fn put_record(table: &mut [u8], at: usize, digits: &[u8])
+pub fn put_record(table: &mut [u8], at: usize, digits: &[u8])
     requires { ⌜ at ≤ tableRoom ⌝ }
     ensures { λ _. ⌜ now (table .exit) ≡ put (now (table .entry)) at (fieldsOf (now (digits .entry))) ⌝ }
 {
@@ -172,52 +153,4 @@ fn put_record(table: &mut [u8], at: usize, digits: &[u8])
     let parent = number(text_of(digits, 20, 28));
     let entry = [kind, depth, start, end, parent];
     put_entry(table, at, &entry);
-}
-
-// Reads the records' lines into the table.
-fn read_records(text: &[u8], table: &mut [u8]) -> Records
-    requires { ⌜ length (now table) ≡ tableRoom ⌝ }
-    ensures { λ r. ⌜ ReadRecords (lines (now (text .entry))) (now (table .exit)) r ⌝ }
-{
-    let mut rest = text;
-    let mut n = 0;
-    while 0 < rest.len() {
-        let end = line_end(rest);
-        let line = n + RECORD_LINE;
-        if (LAST_LINE < line) | !is_numbers(rest, end, RECORD_DIGITS) {
-            return Records::Faulty(line as u32);
-        }
-        put_record(table, RECORD_BYTES * n, &rest[..end]);
-        let next = after_line(rest, end);
-        rest = next;
-        n += 1;
-    }
-    Records::Read(n)
-}
-
-// Reads the source and the table into their buffers.
-pub fn read_frame(input: &[u8], source: &mut [u8], table: &mut [u8]) -> Frame
-    requires { ⌜ (length (now source) ≡ mostBytes) × (length (now table) ≡ tableRoom) ⌝ }
-    ensures { λ r. ⌜ ReadFrame (lines (now (input .entry))) (now (source .exit)) (now (table .exit)) r ⌝ }
-{
-    let end = line_end(input);
-    if !is_source(input, end) {
-        return Frame::Unreadable(1);
-    }
-    let rest = after_line(input, end);
-    let offset_end = line_end(rest);
-    if !is_numbers(rest, offset_end, OFFSET_DIGITS) {
-        return Frame::Unreadable(2);
-    }
-    let records = after_line(rest, offset_end);
-    if records.len() == 0 {
-        return Frame::Unreadable(3);
-    }
-    match read_records(records, table) {
-        Records::Faulty(line) => Frame::Unreadable(line),
-        Records::Read(n) => {
-            read_source(&input[..end], source);
-            Frame::Given(end / 2, number(&rest[..offset_end]), n)
-        }
-    }
 }

@@ -7,8 +7,8 @@ use mathlib.Core.List.{List, [], _++_}
 use native.Mathlib.Omega.{arith}
 use borrow.Author.Tests.{eqb-true}
 use lib.Dec.{eqb}
-use Rattle.table.specs.Kinds.{lastNode, withExpressionItem, columnList, expressionList, columnAlias}
-use Rattle.table.specs.Table.{count, kindAt, recordAt, records, part}
+use Rattle.records.specs.Kinds.{lastNode, withExpressionItem, columnList, expressionList, columnAlias}
+use Rattle.records.specs.Table.{count, kindAt, recordAt, records, part}
 use Rattle.forest.specs.Forest.{Forest, nil, token, node, kids, stretchEnd}
 use Rattle.forest.proofs.Laws.{head-part}
 use Rattle.names.specs.declared.names.Bound.{Bound}
@@ -16,7 +16,7 @@ use Rattle.names.specs.declared.bindings.Binder.{Binder}
 use Rattle.names.specs.declared.bindings.Binder.the-variants.{Item, Alias}
 use Rattle.names.specs.Bindings.{entry, boundIn, withItems, selectAliases}
 use Rattle.names.specs.inner.Binders.{binderKind, isList, binds, names}
-use Rattle.table.proofs.Fields.{kind-of}
+use Rattle.records.proofs.Fields.{kind-of}
 
 -- ---- bound names
 

@@ -6,16 +6,16 @@ use mathlib.Core.Bool.{Bool, cond, not, _&&_, _||_}
 use mathlib.Core.List.{List, [], _∷_}
 use lib.Dec.{leb, eqb}
 use lib.ListN.{getD}
-use Rattle.table.specs.declared.record.Rec.{Rec}
-use Rattle.table.specs.Kinds.{bareWord, quotedIdentifier}
+use Rattle.records.specs.declared.record.Rec.{Rec}
+use Rattle.records.specs.Kinds.{bareWord, quotedIdentifier}
 use Rattle.forest.specs.Forest.{Forest, nil, token, node}
 use Rattle.lent.specs.Text.{bytesOf, text, says}
-use Rattle.table.specs.declared.range.Range.{Range}
+use Rattle.records.specs.declared.range.Range.{Range}
 use Rattle.names.specs.declared.names.NameRanges.{NameRanges}
 use Rattle.names.specs.declared.names.NameBinding.{NameBinding}
 use Rattle.names.specs.declared.names.Bound.{Bound}
 use Rattle.names.specs.declared.names.Bound.the-variants.{Unnamed, Named}
-use Rattle.table.specs.Ranges.{absent, span}
+use Rattle.records.specs.Ranges.{absent, span}
 
 -- ---- which tokens are names
 

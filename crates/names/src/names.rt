@@ -2,20 +2,20 @@
 use forest::stretch::child_from;
 use lent::text::says;
 use lent::text::text_of;
-use table::kinds::BARE_WORD;
-use table::kinds::QUOTED_IDENTIFIER;
-use table::range::Range;
-use table::range::no_range;
-use table::range::span_of;
-use table::record::Rec;
-use table::record::count_of;
-use table::record::record_at;
+use records::kinds::BARE_WORD;
+use records::kinds::QUOTED_IDENTIFIER;
+use records::range::Range;
+use records::range::no_range;
+use records::range::span_of;
+use records::record::Rec;
+use records::record::count_of;
+use records::record::record_at;
 ghost use mathlib.Core.Path.{_≡_};
 ghost use mathlib.Core.Bool.{cond};
 ghost use Prim.Native.Nat.{_+_, _≤_, _<_};
-ghost use Rattle.table.specs.Table.{count, recordAt, records};
+ghost use Rattle.records.specs.Table.{count, recordAt, records};
 ghost use Rattle.forest.specs.Forest.{kids};
-ghost use Rattle.table.specs.Rules.{mostRecords};
+ghost use Rattle.conditions.specs.Conditions.{mostRecords};
 ghost use Rattle.names.specs.Names.{byteAt, isAs, isPart, isName, isMark, unquoted, nameOf, absentName, binding, boundName, withItem, aliasIn};
 
 // A name's two ranges: with its quotes, and without.

@@ -11,8 +11,8 @@ use native.Mathlib.Omega.{arith}
 use borrow.Author.Tests.{lt-ltb, le-ltb, ltb-false, eq-eqb, ne-eqb}
 use lib.Dec.{ltb}
 use lib.ListN.{length}
-use Rattle.table.specs.Kinds.{subqueryExpression}
-use Rattle.table.specs.Table.{count, kindAt, parentAt, part}
+use Rattle.records.specs.Kinds.{subqueryExpression}
+use Rattle.records.specs.Table.{count, kindAt, parentAt, part}
 use Rattle.forest.specs.Forest.{stretchEnd}
 use Rattle.lent.specs.declared.list.Listed.the-variants.{Entries, Refused as Denied}
 use Rattle.lent.specs.Lists.{listBytes, Written, Answers}

@@ -7,7 +7,7 @@ use mathlib.Core.Bool.{Bool, true, false, cond, _||_}
 use mathlib.Core.List.{List, [], _∷_, _++_}
 use native.Mathlib.Omega.{arith}
 use borrow.Author.Tests.{lt-ltb, le-ltb, ne-eqb}
-use Rattle.table.specs.Table.{kindAt}
+use Rattle.records.specs.Table.{kindAt}
 use Rattle.path.specs.Path.{isSubquery}
 use Rattle.statement.specs.Statement.{isStatement}
 use Rattle.offers.specs.Enclosing.{queries, someQuery, beyond, statementAmong, lastRoot, rootsAmong}

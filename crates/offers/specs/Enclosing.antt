@@ -4,7 +4,7 @@
 use Prim.Native.Nat.{ℕ}
 use mathlib.Core.Bool.{Bool, false, cond, _||_}
 use mathlib.Core.List.{List, [], _∷_, _++_}
-use Rattle.table.specs.Table.{kindAt}
+use Rattle.records.specs.Table.{kindAt}
 use Rattle.forest.specs.Above.{above}
 use Rattle.path.specs.Path.{isSubquery}
 use Rattle.statement.specs.Statement.{isStatement}

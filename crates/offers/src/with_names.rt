@@ -7,19 +7,20 @@ use lent::list::Listed;
 use lent::verdict::NO_ROOM;
 use lent::verdict::Verdict;
 use names::bindings::BINDING_BYTES;
+use records::kinds::SUBQUERY_EXPRESSION;
+use records::record::kind_at;
+use records::record::parent_at;
 use seen::seen::collect_seen;
 use statement::statement::is_statement;
 use table::check::check;
-use table::kinds::SUBQUERY_EXPRESSION;
-use table::record::kind_at;
-use table::record::parent_at;
 ghost use mathlib.Core.Path.{_≡_};
 ghost use mathlib.Core.List.{[]};
 ghost use Prim.Native.Nat.{_+_, _≤_, _<_};
 ghost use lib.ListN.{length};
 ghost use Rattle.lent.specs.Numbers.{wordLimit};
-ghost use Rattle.table.specs.Table.{count, depthAt};
-ghost use Rattle.table.specs.Rules.{mostRecords, mostDepth, rules};
+ghost use Rattle.records.specs.Table.{count, depthAt};
+ghost use Rattle.conditions.specs.Conditions.{mostRecords, mostDepth};
+ghost use Rattle.table.specs.Rules.{rules};
 ghost use Rattle.lent.specs.Lists.{farthest, Written, Answers};
 ghost use Rattle.names.specs.Bindings.{bindingRow};
 ghost use Rattle.forest.specs.Above.{above};
@@ -92,7 +93,7 @@ fn collect_offered(table: &[u8], n: usize, source: &[u8], out: &mut [u8], at: us
 
 // Lists the WITH names that are offered at the root n of a table that is admitted: counted on an empty part of the buffer, and written if there is
 // something to write and it has room.
-fn list_offered(table: &[u8], n: usize, source: &[u8], out: &mut [u8]) -> Listed
+pub fn list_offered(table: &[u8], n: usize, source: &[u8], out: &mut [u8]) -> Listed
     requires { ⌜ ((n < count (now table)) × (count (now table) ≤ mostRecords) × (depthAt (now table) n ≤ mostDepth)) × Climbs (now table) ⌝ }
     ensures { λ r. ⌜ Answers [] bindingRow (offeredIn (now (source .entry)) (now (table .entry)) n) (now (out .entry)) r (now (out .exit)) ⌝ }
 {

@@ -7,8 +7,8 @@ use mathlib.Core.List.{List, [], _∷_}
 use mathlib.Core.Option.{Option, none, some}
 use native.Mathlib.Numerals.{add-one}
 use lib.Dec.{eqb}
-use Rattle.table.specs.declared.record.Rec.{Rec}
-use Rattle.table.specs.Kinds.{joinConstraint}
+use Rattle.records.specs.declared.record.Rec.{Rec}
+use Rattle.records.specs.Kinds.{joinConstraint}
 use Rattle.forest.specs.Descent.{along}
 use Rattle.path.specs.declared.gathered.Gathered.{Gathered}
 use Rattle.path.specs.Path.{deepestOr, deepest, onPath, trails, isSubquery}
@@ -41,7 +41,7 @@ module _ (test : ℕ → Bool) (field : Gathered → ℕ)
       → field (along (λ g r. stepped g (r .kind) (r .index)) g l) ≡ numbered (deepestOr best test l)
   unfolding along deepestOr
   along-deepest [] g best e = e
-  along-deepest (r ∷ l) g best e = along-deepest l _ _ (steps g r ∙ go (test (r .kind)))
+  along-deepest (r ∷ l) g best e = along-deepest l (stepped g (r .kind) (r .index)) (cond (test (r .kind)) (some r) best) (steps g r ∙ go (test (r .kind)))
     where
       go : (b : Bool) → cond b (r .index + 1) (field g) ≡ numbered (cond b (some r) best)
       go true = unfold numbered in add-one (r .index)

@@ -6,11 +6,11 @@ use mathlib.Core.Bool.{Bool, true, false, cond}
 use native.Mathlib.Omega.{arith}
 use lib.Dec.{eqb}
 use mathlib.Core.List.{List}
-use Rattle.table.specs.Table.{records}
+use Rattle.records.specs.Table.{records}
 use Rattle.forest.proofs.Descents.{Descent, answer}
-use Rattle.table.specs.Ranges.{holds}
+use Rattle.records.specs.Ranges.{holds}
 use Rattle.path.specs.Path.{pathAt, trails}
-use Rattle.table.specs.Kinds.{subqueryExpression}
+use Rattle.records.specs.Kinds.{subqueryExpression}
 use Rattle.path.specs.declared.gathered.Next.{Next}
 use Rattle.path.specs.declared.gathered.Next.the-variants.{Deepest, Above}
 use Rattle.path.specs.declared.gathered.Gathered.{Gathered}

@@ -5,11 +5,11 @@ use mathlib.Core.Bool.{Bool, false, cond, _||_, true, _&&_}
 use mathlib.Core.List.{List, [], _∷_}
 use mathlib.Core.Option.{Option, none, some}
 use lib.Dec.{eqb, leb}
-use Rattle.table.specs.declared.record.Rec.{Rec}
-use Rattle.table.specs.Table.{records}
+use Rattle.records.specs.declared.record.Rec.{Rec}
+use Rattle.records.specs.Table.{records}
 use Rattle.forest.specs.Descent.{pathOf}
-use Rattle.table.specs.Ranges.{holds}
-use Rattle.table.specs.Kinds.{subqueryExpression, selectStatement, updateStatement}
+use Rattle.records.specs.Ranges.{holds}
+use Rattle.records.specs.Kinds.{subqueryExpression, selectStatement, updateStatement}
 use Rattle.path.specs.declared.gathered.Next.{Next}
 use Rattle.path.specs.declared.gathered.Next.the-variants.{Deepest, Above}
 

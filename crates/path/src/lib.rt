@@ -1,4 +1,3 @@
-// The path to an offset, and what it gathers.
+// What the path to an offset gathers, and which rule speaks of a node of it.
 pub mod gathered;
-pub mod path;
 pub mod rules;

@@ -6,7 +6,7 @@ use mathlib.Core.List.{List, [], _∷_, _++_}
 use lib.ListN.{take, drop}
 use lib.Dec.{ltb, eqb}
 use Rattle.lent.specs.Text.{bytesOf}
-use Rattle.table.specs.Ranges.{absentNumber}
+use Rattle.records.specs.Ranges.{absentNumber}
 use Rattle.statement.specs.declared.statement.Enclosing.{Enclosing}
 use Rattle.statement.specs.declared.statement.Enclosing.the-variants.{Outside, Record}
 use Rattle.contexts.specs.declared.context.CursorContext.{CursorContext}

@@ -3,7 +3,7 @@ use contexts::context::CursorContext;
 use contexts::context::code_of;
 use lent::number::NUMBER_BYTES;
 use lent::number::word_at;
-use table::range::ABSENT;
+use records::range::ABSENT;
 ghost use mathlib.Core.List.{[], _∷_};
 ghost use Prim.Native.Nat.{_+_, _*_, _/_, _≤_, _<_};
 ghost use lib.ListN.{length};

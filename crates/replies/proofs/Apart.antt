@@ -14,7 +14,9 @@ use Rattle.lent.specs.declared.verdict.Verdict.the-variants.{Admitted, Refused}
 use Rattle.lent.specs.declared.list.Listed.{Listed}
 use Rattle.lent.specs.declared.list.Listed.the-variants.{Entries, Refused as Denied}
 use Rattle.lent.specs.Verdicts.{Rule, rule, first}
-use Rattle.table.specs.Rules.{rules, rulesFrom, noRoot, noSuchRecord, verdict}
+use Rattle.conditions.specs.Conditions.{noRoot, noSuchRecord}
+use Rattle.refusals.specs.ByRecord.{rulesFrom}
+use Rattle.table.specs.Rules.{rules, verdict}
 use Rattle.lent.specs.Lists.{roomRule, reply, listed}
 use Rattle.brackets.specs.declared.bracket_matching.Hint.{Hint}
 use Rattle.brackets.specs.declared.bracket_matching.Hint.the-variants.{Opener, NoOpener}

@@ -15,7 +15,7 @@ use Rattle.statement.specs.declared.statement.StatementReply.the-variants.{Stat
 use Rattle.cursor_root.specs.declared.root.RootReply.{RootReply}
 use Rattle.cursor_root.specs.declared.root.RootReply.the-variants.{Root, Refused as Unrooted}
 use Rattle.lent.specs.Numbers.{wordLimit}
-use Rattle.table.specs.Ranges.{absentNumber}
+use Rattle.records.specs.Ranges.{absentNumber}
 use Rattle.lent.specs.Verdicts.{Rule}
 use Rattle.lent.specs.Lists.{listed, lent}
 use mathlib.Core.Path.{_≡_}

@@ -13,12 +13,12 @@ use native.Mathlib.Nat.{mul-le-mul-right}
 use lib.Dec.{ltb}
 use lib.ListN.{length, drop, length-append, length-map, length-reverse}
 use borrow.Author.Tests.{ltb-false, le-ltb}
-use Rattle.table.specs.declared.record.Rec.{Rec}
+use Rattle.records.specs.declared.record.Rec.{Rec}
 use Rattle.lent.specs.declared.verdict.Verdict.{Verdict}
 use Rattle.lent.specs.declared.verdict.Verdict.the-variants.{Admitted, Refused}
 use Rattle.lent.specs.declared.list.Listed.{Listed}
 use Rattle.lent.specs.declared.list.Listed.the-variants.{Entries, Refused as Unlisted}
-use Rattle.table.specs.Table.{count, kindAt, recordAt, records, from}
+use Rattle.records.specs.Table.{count, kindAt, recordAt, records, from}
 use Rattle.forest.specs.Forest.{Forest, nil, token, node, kids}
 use Rattle.forest.specs.Sense.{treeOf, inOrder, byDepth}
 use Rattle.lent.specs.Verdicts.{Rule, first}

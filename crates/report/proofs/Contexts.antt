@@ -9,8 +9,8 @@ use native.Mathlib.Omega.{arith}
 use lib.Dec.{eqb}
 use Rattle.lent.specs.declared.verdict.Verdict.the-variants.{Admitted}
 use Rattle.lent.specs.Fit32.{Fit32}
-use Rattle.table.specs.Kinds.{file, joinConstraint}
-use Rattle.table.specs.Table.{kindAt}
+use Rattle.records.specs.Kinds.{file, joinConstraint}
+use Rattle.records.specs.Table.{kindAt}
 use Rattle.table.specs.Rules.{verdict}
 use Rattle.forest.specs.Forest.{inside}
 use Rattle.forest.proofs.Sense.{admitted-tidy}

@@ -20,7 +20,7 @@ ghost use Prim.Native.Nat.{_+_, _*_, _/_, _≤_};
 ghost use lib.ListN.{length};
 ghost use Rattle.lent.specs.declared.verdict.Verdict.the-variants.{Admitted};
 ghost use Rattle.table.specs.Rules.{verdict};
-ghost use Rattle.table.specs.Table.{count};
+ghost use Rattle.records.specs.Table.{count};
 ghost use Rattle.cursor.specs.CursorContext.{contextAt};
 ghost use Rattle.tables.specs.Tables.{referenceBytes};
 ghost use Rattle.statement.specs.Statement.{enclosingAt};

@@ -13,11 +13,11 @@ use native.Mathlib.Omega.{arith}
 use native.Mathlib.Nat.{zero-add, div-div-eq-div-mul, div-add-mod', mod-eq-of-lt}
 use borrow.Author.Tests.{eq-eqb, leb-true}
 use lib.ListN.{length, drop}
-use Rattle.table.specs.declared.record.Rec.{Rec}
+use Rattle.records.specs.declared.record.Rec.{Rec}
 use Rattle.lent.specs.declared.verdict.Verdict.the-variants.{Admitted}
-use Rattle.table.specs.Kinds.{isNode, expression}
+use Rattle.records.specs.Kinds.{isNode, expression}
 use Rattle.lent.specs.Numbers.{word}
-use Rattle.table.specs.Table.{count, kindAt, recordAt, records, part}
+use Rattle.records.specs.Table.{count, kindAt, recordAt, records, part}
 use Rattle.forest.specs.Forest.{stretchEnd}
 use Rattle.table.specs.Rules.{verdict}
 use Rattle.table.specs.Exactly.{Node}

@@ -7,9 +7,9 @@ use mathlib.Core.Bool.{Bool, true, false, cond, _||_}
 use mathlib.Core.List.{List, [], _∷_, List·Memᴰ, List·Memᴰ·not-nil, List·Memᴰ·eq-of-singleton}
 use mathlib.Core.Logic.{⊎-elim}
 use lib.Dec.{eqb}
-use Rattle.table.specs.declared.record.Rec.{Rec}
-use Rattle.table.specs.Kinds.{withClause, selectClause, fromClause, withExpressionItem, columnList, expressionList, columnAlias, joinClause}
-use Rattle.table.specs.Table.{count, kindAt}
+use Rattle.records.specs.declared.record.Rec.{Rec}
+use Rattle.records.specs.Kinds.{withClause, selectClause, fromClause, withExpressionItem, columnList, expressionList, columnAlias, joinClause}
+use Rattle.records.specs.Table.{count, kindAt}
 use Rattle.forest.specs.Forest.{Forest, stretchEnd, inside}
 use Rattle.names.specs.declared.names.NameBinding.{NameBinding}
 use Rattle.names.specs.declared.names.Bound.{Bound}

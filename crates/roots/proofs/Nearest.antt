@@ -12,9 +12,9 @@ use native.Mathlib.Nat.{zero-add}
 use native.Mathlib.Omega.{arith}
 use borrow.Author.Tests.{eqb-true}
 use lib.Dec.{eqb}
-use Rattle.table.specs.declared.record.Rec.{Rec}
-use Rattle.table.specs.Kinds.{withClause, subqueryExpression, tableIdentifier, tableExpression, tableAlias, joinClause}
-use Rattle.table.specs.Table.{count, depthAt, kindAt, recordAt, from, records, part}
+use Rattle.records.specs.declared.record.Rec.{Rec}
+use Rattle.records.specs.Kinds.{withClause, subqueryExpression, tableIdentifier, tableExpression, tableAlias, joinClause}
+use Rattle.records.specs.Table.{count, depthAt, kindAt, recordAt, from, records, part}
 use Rattle.forest.specs.Forest.{Forest, nil, token, node, kids, level, stretchEnd, inside}
 use Rattle.forest.proofs.Laws.{from-cons, kids-part, head-part}
 use Rattle.names.specs.declared.names.NameBinding.{NameBinding}

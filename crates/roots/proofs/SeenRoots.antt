@@ -9,8 +9,8 @@ use mathlib.Core.Logic.{_⊎_, inl, inr, ⊎-elim}
 use native.Mathlib.Omega.{arith}
 use borrow.Author.Tests.{eqb-true, ltb-true}
 use lib.Dec.{eqb, ltb}
-use Rattle.table.specs.Kinds.{withClause, withExpressionItem, columnList}
-use Rattle.table.specs.Table.{count, depthAt, kindAt}
+use Rattle.records.specs.Kinds.{withClause, withExpressionItem, columnList}
+use Rattle.records.specs.Table.{count, depthAt, kindAt}
 use Rattle.forest.specs.Forest.{Forest, nil, token, node, stretchEnd, inside}
 use Rattle.forest.specs.Sense.{Tidy}
 use Rattle.forest.proofs.Reaches.{reaches-yes}

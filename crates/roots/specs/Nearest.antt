@@ -7,9 +7,9 @@ use mathlib.Core.Bool.{Bool, true, false, _||_}
 use mathlib.Core.List.{List, [], _∷_, _++_, List·Memᴰ}
 use mathlib.Core.Logic.{_⊎_}
 use lib.Dec.{eqb}
-use Rattle.table.specs.declared.record.Rec.{Rec}
-use Rattle.table.specs.Kinds.{withClause, withExpressionItem, tableIdentifier, tableAlias, columnAlias}
-use Rattle.table.specs.Table.{kindAt, recordAt}
+use Rattle.records.specs.declared.record.Rec.{Rec}
+use Rattle.records.specs.Kinds.{withClause, withExpressionItem, tableIdentifier, tableAlias, columnAlias}
+use Rattle.records.specs.Table.{kindAt, recordAt}
 use Rattle.forest.specs.Forest.{Forest, inside}
 use Rattle.names.specs.declared.names.NameBinding.{NameBinding}
 use Rattle.names.specs.declared.names.Bound.the-variants.{Named}

@@ -10,9 +10,9 @@ use native.Mathlib.Omega.{arith}
 use borrow.Author.Tests.{lt-ltb, le-ltb, le-leb, lt-leb, eq-eqb}
 use lib.Dec.{leb, ltb, eqb}
 use lib.ListN.{length}
-use Rattle.table.specs.declared.record.Rec.{Rec}
+use Rattle.records.specs.declared.record.Rec.{Rec}
 use Rattle.lent.specs.declared.verdict.Verdict.the-variants.{Admitted}
-use Rattle.table.specs.Table.{count, kindAt, recordAt, records}
+use Rattle.records.specs.Table.{count, kindAt, recordAt, records}
 use Rattle.forest.specs.Forest.{Forest, nil, token, node, kids, inside}
 use Rattle.table.specs.Rules.{verdict}
 use Rattle.forest.specs.Sense.{Tidy}
@@ -23,7 +23,7 @@ use Rattle.lent.proofs.Cases.{lt-or-le}
 use Rattle.forest.proofs.Laws.{from-cons}
 use Rattle.forest.proofs.Scans.{fold-tokens}
 use Rattle.forest.proofs.Sense.{admitted-tidy}
-use Rattle.table.specs.Ranges.{holds, span}
+use Rattle.records.specs.Ranges.{holds, span}
 use Rattle.roots.proofs.Counts.{decide}
 use Rattle.tokens.specs.declared.last_token.Name.{Name}
 use Rattle.tokens.specs.declared.last_token.Name.the-variants.{Nameless, Named}

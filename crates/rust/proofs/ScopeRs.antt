@@ -12,10 +12,10 @@ use native.Mathlib.Nat.{zero-add}
 use borrow.Author.Tests.{eq-eqb, ne-eqb, lt-ltb, le-ltb, le-leb, lt-leb}
 use lib.Dec.{ltb, eqb}
 use lib.ListN.{length}
-use Rattle.table.specs.declared.record.Rec.{Rec}
-use Rattle.table.specs.declared.range.Range.{Range}
+use Rattle.records.specs.declared.record.Rec.{Rec}
+use Rattle.records.specs.declared.range.Range.{Range}
 use Rattle.lent.specs.declared.verdict.Verdict.the-variants.{Admitted}
-use Rattle.table.specs.Table.{count, depthAt, recordAt, records, part, from}
+use Rattle.records.specs.Table.{count, depthAt, recordAt, records, part, from}
 use Rattle.forest.specs.Forest.{Forest, nil, token, node, level, kids, stretchEnd, inside}
 use Rattle.table.specs.Rules.{verdict}
 use Rattle.lent.proofs.Cases.{lt-or-le}
@@ -28,7 +28,7 @@ use Rattle.tables.specs.declared.pending.Pending.{Pending}
 use Rattle.tables.specs.declared.pending.Pending.the-variants.{Nothing, Held}
 use Rattle.statement.specs.declared.statement.Enclosing.{Enclosing}
 use Rattle.statement.specs.declared.statement.Enclosing.the-variants.{Outside, Record}
-use Rattle.table.specs.Ranges.{span, holds}
+use Rattle.records.specs.Ranges.{span, holds}
 use Rattle.names.specs.Names.{isAs, isPart, isName, direct, unquoted, nameOf, firstNamed, lastNamed, withItem, aliasIn, binding as bind}
 use Rattle.collection.specs.Collection.{nodeGives, collected, collection, ownWith, ownColumns, ownTables, collectionAt}
 use Rattle.names.specs.Bindings.{entry, boundIn, withItems, selectAliases}

@@ -9,10 +9,10 @@ use native.Mathlib.Omega.{arith}
 use borrow.Author.Tests.{ltb-true, le-leb, leb-false}
 use lib.Dec.{ltb, eqb}
 use lib.ListN.{length}
-use Rattle.table.specs.declared.record.Rec.{Rec}
+use Rattle.records.specs.declared.record.Rec.{Rec}
 use Rattle.lent.specs.declared.verdict.Verdict.the-variants.{Admitted}
-use Rattle.table.specs.Kinds.{isNode, lastNode}
-use Rattle.table.specs.Table.{count, kindAt, startAt, recordAt, run, from, records}
+use Rattle.records.specs.Kinds.{isNode, lastNode}
+use Rattle.records.specs.Table.{count, kindAt, startAt, recordAt, run, from, records}
 use Rattle.forest.specs.Forest.{Forest, nil, token, node, level, kids}
 use Rattle.table.specs.Rules.{verdict}
 use Rattle.forest.specs.Sense.{Tidy, Linked, inOrder, byDepth, treeOf}

@@ -8,10 +8,11 @@ use native.Mathlib.Omega.{arith}
 use native.Mathlib.Nat.{zero-add, add-zero}
 use Rattle.lent.specs.declared.verdict.Verdict.{Verdict}
 use Rattle.lent.specs.declared.verdict.Verdict.the-variants.{Admitted}
-use Rattle.table.specs.declared.record.Rec.{Rec}
-use Rattle.table.specs.Kinds.{isNode}
-use Rattle.table.specs.Table.{count, kindAt, depthAt, parentAt, recordAt, run, from, records}
-use Rattle.table.specs.Rules.{nearest, verdict}
+use Rattle.records.specs.declared.record.Rec.{Rec}
+use Rattle.records.specs.Kinds.{isNode}
+use Rattle.records.specs.Table.{count, kindAt, depthAt, parentAt, recordAt, run, from, records}
+use Rattle.conditions.specs.Conditions.{nearest}
+use Rattle.table.specs.Rules.{verdict}
 use Rattle.forest.specs.Forest.{Forest, nil, token, node}
 use Rattle.forest.specs.Sense.{Tidy, Linked, treeOf, inOrder, asCarried}
 use Rattle.forest.proofs.Owned.{Own, tree-own}

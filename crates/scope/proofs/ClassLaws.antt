@@ -7,8 +7,8 @@ use native.Mathlib.Omega.{arith}
 use mathlib.Core.List.{List, [], _∷_, _++_, append-nil}
 use native.Mathlib.Numerals.{add-one}
 use borrow.Author.Tests.{le-leb, lt-leb}
-use Rattle.table.specs.Kinds.{lastNode}
-use Rattle.table.specs.Table.{kindAt, startAt, endAt, parentAt}
+use Rattle.records.specs.Kinds.{lastNode}
+use Rattle.records.specs.Table.{kindAt, startAt, endAt, parentAt}
 use Rattle.lent.specs.Numbers.{numberBytes}
 use Rattle.lent.specs.Lists.{put, Written}
 use Rattle.lent.proofs.Writes.{written-none, written-one, written-then}

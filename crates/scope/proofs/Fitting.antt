@@ -10,8 +10,8 @@ use lib.Dec.{eqb}
 use Rattle.lent.specs.declared.verdict.Verdict.the-variants.{Admitted}
 use Rattle.lent.specs.Fit32.{Fit32, AllFit32}
 use Rattle.lent.proofs.Fit32.{fit-lists, fit-chosen}
-use Rattle.table.specs.Kinds.{fromClause, joinClause}
-use Rattle.table.specs.Table.{count, kindAt, records}
+use Rattle.records.specs.Kinds.{fromClause, joinClause}
+use Rattle.records.specs.Table.{count, kindAt, records}
 use Rattle.table.specs.Rules.{verdict}
 use Rattle.forest.specs.Forest.{Forest, nil, token, node, kids}
 use Rattle.forest.specs.Limits.{Limited}

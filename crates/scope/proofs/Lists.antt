@@ -11,10 +11,11 @@ use Rattle.lent.specs.declared.verdict.Verdict.{Verdict}
 use Rattle.lent.specs.declared.verdict.Verdict.the-variants.{Admitted, Refused}
 use Rattle.lent.specs.declared.list.Listed.{Listed}
 use Rattle.lent.specs.declared.list.Listed.the-variants.{Entries, Refused as Denied}
-use Rattle.table.specs.Kinds.{withClause, fromClause, joinClause, subqueryExpression, tableIdentifier, tableExpression, tableAlias}
-use Rattle.table.specs.Table.{count, recordAt, records, part}
+use Rattle.records.specs.Kinds.{withClause, fromClause, joinClause, subqueryExpression, tableIdentifier, tableExpression, tableAlias}
+use Rattle.records.specs.Table.{count, recordAt, records, part}
 use Rattle.forest.specs.Forest.{Forest, nil, token, node, kids, stretchEnd}
-use Rattle.table.specs.Rules.{mostRecords, rootRules, rootVerdict}
+use Rattle.conditions.specs.Conditions.{mostRecords}
+use Rattle.table.specs.Rules.{rootRules, rootVerdict}
 use Rattle.lent.specs.Verdicts.{Rule, first}
 use Rattle.lent.specs.Numbers.{numberBytes}
 use Rattle.lent.specs.Lists.{listBytes, listed, lent, Written}

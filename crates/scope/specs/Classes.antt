@@ -3,7 +3,7 @@
 use Prim.Native.Nat.{ℕ, _*_}
 use mathlib.Core.Option.{Option, none, some}
 use mathlib.Core.List.{List, [], _∷_, _++_}
-use Rattle.table.specs.Table.{kindAt, records}
+use Rattle.records.specs.Table.{kindAt, records}
 use Rattle.forest.specs.Forest.{Forest, nil, token, node, kids}
 use Rattle.classes.specs.declared.token_class.TokenClass.{TokenClass}
 use Rattle.classes.specs.TokenClass.{classOf, numberOf}

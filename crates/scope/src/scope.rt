@@ -11,14 +11,15 @@ use tables::pending::REFERENCE_BYTES;
 ghost use mathlib.Core.Path.{_≡_};
 ghost use Prim.Native.Nat.{_/_, _≤_, _<_};
 ghost use lib.ListN.{length};
-ghost use Rattle.table.specs.Rules.{rootRules, mostRecords};
+ghost use Rattle.conditions.specs.Conditions.{mostRecords};
+ghost use Rattle.table.specs.Rules.{rootRules};
 ghost use Rattle.lent.specs.Lists.{Answers};
 ghost use Rattle.tables.specs.Tables.{referenceRow};
 ghost use Rattle.names.specs.Bindings.{bindingRow};
 ghost use Rattle.scope.specs.Scope.{withNames, tableAliases, columnAliases, tableRefs};
 ghost use Rattle.tables.specs.inner.Rows.{asRow};
 ghost use Rattle.scope.specs.inner.Rows.{rowsAt, width};
-ghost use Rattle.table.specs.Table.{count};
+ghost use Rattle.records.specs.Table.{count};
 ghost use mathlib.Core.List.{[]};
 
 // How many entries of a list have this many bytes.

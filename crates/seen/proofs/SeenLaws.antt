@@ -12,14 +12,14 @@ use native.Mathlib.Nat.{zero-add, add-zero}
 use borrow.Author.Tests.{eq-eqb, ne-eqb, eqb-true, le-leb, lt-leb}
 use lib.Dec.{eqb, ltb}
 use lib.ListN.{drop}
-use Rattle.table.specs.declared.record.Rec.{Rec}
-use Rattle.table.specs.Kinds.{lastNode, isNode, withClause, withExpressionItem, subqueryExpression, columnList}
-use Rattle.table.specs.Table.{recordBytes, count, kindAt, depthAt, recordAt, from, records, part}
+use Rattle.records.specs.declared.record.Rec.{Rec}
+use Rattle.records.specs.Kinds.{lastNode, isNode, withClause, withExpressionItem, subqueryExpression, columnList}
+use Rattle.records.specs.Table.{recordBytes, count, kindAt, depthAt, recordAt, from, records, part}
 use Rattle.forest.specs.Forest.{Forest, nil, token, node, kids, inside, stretchEnd}
 use Rattle.forest.specs.inner.Scan.{Reading, fold}
 use Rattle.lent.specs.Lists.{Written}
 use Rattle.forest.proofs.Laws.{node-or-token, record-tail, head-part, kids-tail}
-use Rattle.table.proofs.Fields.{kind-of, kind-yes, kind-no, index-of}
+use Rattle.records.proofs.Fields.{kind-of, kind-yes, kind-no, index-of}
 use Rattle.forest.proofs.Scans.{sweep, Sweep, sweep-start, sweep-end, sweep-stop, sweep-over, sweep-token, sweep-into, sweep-past}
 use Rattle.lent.proofs.Writes.{written-none, written-then}
 use Rattle.forest.proofs.Walking.{rest-inside}

@@ -10,11 +10,11 @@ use mathlib.Core.List.{List, [], _∷_, _++_, append-assoc, List·Memᴰ, List·
 use native.Mathlib.Omega.{arith}
 use borrow.Author.Tests.{le-leb, lt-leb}
 use lib.ListN.{drop}
-use Rattle.table.specs.declared.record.Rec.{Rec}
+use Rattle.records.specs.declared.record.Rec.{Rec}
 use Rattle.lent.specs.declared.verdict.Verdict.{Verdict}
 use Rattle.lent.specs.declared.verdict.Verdict.the-variants.{Admitted, Refused}
-use Rattle.table.specs.Kinds.{isNode, lastNode}
-use Rattle.table.specs.Table.{recordBytes, count, kindAt, startAt, endAt, recordAt, from, records}
+use Rattle.records.specs.Kinds.{isNode, lastNode}
+use Rattle.records.specs.Table.{recordBytes, count, kindAt, startAt, endAt, recordAt, from, records}
 use Rattle.forest.specs.Forest.{Forest, nil, token, node, kids, children, Child}
 use Rattle.forest.specs.Places.{Place, places, nodesOf}
 use Rattle.forest.proofs.Laws.{node-or-token, records-tail}
@@ -23,7 +23,7 @@ use Rattle.statement.specs.declared.statement.Enclosing.{Enclosing}
 use Rattle.statement.specs.declared.statement.Enclosing.the-variants.{Outside, Record}
 use Rattle.statement.specs.declared.statement.StatementReply.{StatementReply}
 use Rattle.statement.specs.declared.statement.StatementReply.the-variants.{Refused as Denied}
-use Rattle.table.specs.Ranges.{spans, holds}
+use Rattle.records.specs.Ranges.{spans, holds}
 use Rattle.statement.specs.Statement.{isStatement, itself, orElse, firstFind, enclosingAt, told, statementReply, Hold, Innermost, FirstInnermost, NoCandidate}
 
 -- ---- the loop at record i

@@ -2,23 +2,23 @@
 use forest::stretch::child_from;
 use forest::stretch::rest_from;
 use lent::verdict::Verdict;
+use records::kinds::DESCRIBE_STATEMENT;
+use records::kinds::SELECT_STATEMENT;
+use records::range::is_holder;
+use records::range::spans;
+use records::record::count_of;
+use records::record::end_at;
+use records::record::kind_at;
+use records::record::start_at;
 use table::check::check;
-use table::kinds::DESCRIBE_STATEMENT;
-use table::kinds::SELECT_STATEMENT;
-use table::range::is_holder;
-use table::range::spans;
-use table::record::count_of;
-use table::record::end_at;
-use table::record::kind_at;
-use table::record::start_at;
 ghost use mathlib.Core.Path.{_≡_};
 ghost use Prim.Native.Nat.{_+_, _<_};
 ghost use lib.ListN.{length};
-ghost use Rattle.table.specs.Table.{count, records};
+ghost use Rattle.records.specs.Table.{count, records};
 ghost use Rattle.lent.specs.Numbers.{wordLimit};
 ghost use Rattle.forest.specs.Forest.{kids};
 ghost use Rattle.table.specs.Rules.{verdict};
-ghost use Rattle.table.specs.Ranges.{spans};
+ghost use Rattle.records.specs.Ranges.{spans};
 ghost use Rattle.statement.specs.Statement.{isStatement, itself, orElse, firstFind, enclosingAt, told, statementReply};
 
 // The record that a search finds.

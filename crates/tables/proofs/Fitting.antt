@@ -6,11 +6,11 @@ use mathlib.Core.Bool.{Bool, true, false, cond, _&&_}
 use mathlib.Core.List.{List, [], _∷_, _++_}
 use native.Mathlib.Omega.{arith}
 use lib.Dec.{leb, eqb}
-use Rattle.table.specs.declared.record.Rec.{Rec}
-use Rattle.table.specs.declared.range.Range.{Range}
-use Rattle.table.specs.Kinds.{quotedIdentifier, joinClause, tableIdentifier, tableExpression, tableAlias}
-use Rattle.table.specs.Rules.{mostRecords}
-use Rattle.table.specs.Ranges.{span}
+use Rattle.records.specs.declared.record.Rec.{Rec}
+use Rattle.records.specs.declared.range.Range.{Range}
+use Rattle.records.specs.Kinds.{quotedIdentifier, joinClause, tableIdentifier, tableExpression, tableAlias}
+use Rattle.conditions.specs.Conditions.{mostRecords}
+use Rattle.records.specs.Ranges.{span}
 use Rattle.lent.specs.Fit32.{Fit32, AllFit32}
 use Rattle.lent.proofs.Fit32.{fit-append, fit-lists, fit-chosen}
 use Rattle.forest.specs.Forest.{Forest, nil, token, node}

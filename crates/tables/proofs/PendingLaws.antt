@@ -7,8 +7,8 @@ use mathlib.Core.List.{List, [], _∷_}
 use native.Mathlib.Omega.{arith}
 use borrow.Author.Tests.{le-leb, lt-leb}
 use lib.Dec.{leb}
-use Rattle.table.specs.declared.record.Rec.{Rec}
-use Rattle.table.specs.Kinds.{lastNode}
+use Rattle.records.specs.declared.record.Rec.{Rec}
+use Rattle.records.specs.Kinds.{lastNode}
 use Rattle.forest.specs.Forest.{Forest, nil, token, node}
 use Rattle.names.specs.declared.names.NameRanges.{NameRanges}
 use Rattle.tables.specs.declared.pending.Pending.{Pending}

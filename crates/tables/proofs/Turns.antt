@@ -6,9 +6,9 @@ use mathlib.Core.Bool.{Bool, true, false}
 use mathlib.Core.List.{List, [], _∷_, _++_, map, append-assoc}
 use native.Mathlib.Omega.{arith}
 use lib.Dec.{eqb}
-use Rattle.table.specs.declared.record.Rec.{Rec}
-use Rattle.table.specs.Kinds.{joinClause, tableIdentifier, tableExpression, tableAlias}
-use Rattle.table.specs.Table.{count, kindAt, recordAt, records, part}
+use Rattle.records.specs.declared.record.Rec.{Rec}
+use Rattle.records.specs.Kinds.{joinClause, tableIdentifier, tableExpression, tableAlias}
+use Rattle.records.specs.Table.{count, kindAt, recordAt, records, part}
 use Rattle.forest.specs.Forest.{Forest, nil, token, node, kids, stretchEnd}
 use Rattle.forest.proofs.Laws.{head-part}
 use Rattle.names.specs.declared.names.Bound.{Bound}
@@ -22,7 +22,7 @@ use Rattle.names.specs.Names.{isPart, direct, aliasIn}
 use Rattle.names.specs.Bindings.{entry, bindingRow}
 use Rattle.tables.specs.Tables.{fresh, aliased, Listing, handOn, listAlias, tableReading, referenceRow}
 use Rattle.tables.specs.inner.Rows.{rowsOf, pends}
-use Rattle.table.proofs.Fields.{kind-yes, kind-no, index-of}
+use Rattle.records.proofs.Fields.{kind-yes, kind-no, index-of}
 
 -- ---- the table reading: what is written of the pending reference and of an alias
 

@@ -5,8 +5,8 @@ use Prim.Native.Nat.{ℕ, _*_}
 use mathlib.Core.Bool.{cond}
 use mathlib.Core.List.{List, [], _∷_, _++_}
 use lib.Dec.{eqb}
-use Rattle.table.specs.declared.record.Rec.{Rec}
-use Rattle.table.specs.Kinds.{joinClause, tableIdentifier, tableExpression, tableAlias}
+use Rattle.records.specs.declared.record.Rec.{Rec}
+use Rattle.records.specs.Kinds.{joinClause, tableIdentifier, tableExpression, tableAlias}
 use Rattle.forest.specs.Forest.{Forest, nil, token, node}
 use Rattle.names.specs.declared.names.NameRanges.{NameRanges}
 use Rattle.names.specs.declared.names.NameBinding.{NameBinding}

@@ -1,3 +1,1 @@
-pub mod Early
-pub mod Functions
 pub mod Tokens

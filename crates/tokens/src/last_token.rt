@@ -1,19 +1,11 @@
-// The last token at an offset, and what it says: dotted, ON, USING.
-use crate::function::token_at;
-use crate::sweep::Sought;
-use crate::sweep::sweep;
+// What the last token says: dotted, ON, USING.
 use lent::text::says;
 use lent::text::text_of;
-use table::range::Range;
+use records::range::Range;
 ghost use mathlib.Core.Path.{_≡_};
 ghost use mathlib.Core.List.{[], _∷_};
-ghost use Prim.Native.Nat.{ℕ, _-_, _≤_};
-ghost use Rattle.table.specs.Table.{count, records};
-ghost use Rattle.forest.specs.Forest.{kids};
-ghost use Rattle.forest.specs.inner.Ordered.{Ordered};
 ghost use Rattle.lent.specs.Text.{same};
-ghost use Rattle.tokens.specs.LastToken.{lastTwo, isText, isWord, dotted, isJoinWord};
-ghost use Rattle.tokens.specs.inner.Turns.{tokenOf};
+ghost use Rattle.tokens.specs.LastToken.{isText, isWord, dotted, isJoinWord};
 
 // A name's range, or none.
 pub enum Name {
@@ -54,29 +46,6 @@ fn is_word(source: &[u8], token: Name, word: &[u8]) -> bool
     match token {
         Name::Nameless => false,
         Name::Named(range) => says(word, text_of(source, range.start, range.end)),
-    }
-}
-
-// The token of this number, 0 for none.
-fn token_of(s: &[u8], i: usize) -> Name
-    requires { ⌜ i ≤ count (now s) - 1 ⌝ }
-    ensures { λ r. ⌜ r ≡ tokenOf (now (s .entry)) i ⌝ }
-{
-    if i == 0 {
-        return Name::Nameless;
-    }
-    token_at(s, i)
-}
-
-// The last token at or before the offset below the first record of the stretch s, and the one before it.
-pub fn token_before_offset(s: &[u8], offset: usize) -> LastTwo
-    requires { ⌜ Ordered (now s) ⌝ }
-    ensures { λ r. ⌜ ((base : ℕ) → r ≡ lastTwo offset (kids (records base (now (s .entry))))) ⌝ }
-{
-    let swept = sweep(s, offset, Sought::LastToken);
-    LastTwo {
-        last: token_of(s, swept.last),
-        before: token_of(s, swept.before),
     }
 }
 

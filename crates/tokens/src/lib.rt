@@ -1,4 +1,4 @@
-// The last token, dotted, a function's name and its argument's index.
+// The last token, dotted, a function's name and its argument's index: what each is, and what one token says of it.
 pub mod function;
 pub mod last_token;
-pub mod sweep;
+pub mod turns;

@@ -4,7 +4,7 @@ use Prim.Native.Nat.{ℕ}
 use mathlib.Core.Path.{_≡_}
 use mathlib.Core.List.{List}
 use lib.ListN.{length}
-use Rattle.table.specs.Table.{depthAt}
+use Rattle.records.specs.Table.{depthAt}
 use Rattle.forest.specs.Above.{above}
 
 -- as many records stand above record n as it is deep

@@ -2,9 +2,9 @@
 use mathlib.Core.Path.{_≡_, refl}
 use mathlib.Core.List.{List, [], _∷_, _++_}
 use Prim.Native.Nat.{ℕ}
-use Rattle.table.specs.Kinds.{file, selectStatement, fromClause, tableIdentifier, bareWord}
+use Rattle.records.specs.Kinds.{file, selectStatement, fromClause, tableIdentifier, bareWord}
 use Rattle.lent.specs.Numbers.{word}
-use Rattle.table.specs.Table.{recordAt, run, from}
+use Rattle.records.specs.Table.{recordAt, run, from}
 use Rattle.forest.specs.Forest.{extent, stretchEnd}
 use Rattle.forest.specs.Above.{aboveAmong, above}
 use Rattle.table.specs.worked.Worked.{rec, child}

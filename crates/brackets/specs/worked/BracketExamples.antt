@@ -3,7 +3,7 @@ use Prim.Native.Nat.{ℕ}
 use mathlib.Core.Path.{_≡_, refl}
 use mathlib.Core.List.{List, [], _∷_, _++_}
 use Rattle.lent.specs.Numbers.{word}
-use Rattle.table.specs.Table.{recordAt, run, from}
+use Rattle.records.specs.Table.{recordAt, run, from}
 use Rattle.forest.specs.Forest.{level, kids}
 use Rattle.lent.specs.Text.{bytesOf}
 use Rattle.table.specs.worked.Worked.{rec}

@@ -3,7 +3,7 @@
 use Prim.Native.Nat.{ℕ, _*_}
 use mathlib.Core.List.{List, map}
 use Rattle.forest.specs.Forest.{Forest}
-use Rattle.table.specs.Rules.{mostRecords}
+use Rattle.conditions.specs.Conditions.{mostRecords}
 use Rattle.collection.specs.declared.collection.Asked.{Asked}
 use Rattle.collection.specs.declared.collection.Asked.the-variants.{WithNames, TableAliases, ColumnAliases, TableRefs}
 use Rattle.tables.specs.declared.tables.Reads.the-variants.{Aliases, References}

@@ -4,9 +4,9 @@ use Prim.Native.Nat.{ℕ, zero, suc}
 use mathlib.Core.Bool.{Bool, cond, _&&_}
 use mathlib.Core.List.{List, [], _∷_}
 use lib.Dec.{leb, eqb}
-use Rattle.table.specs.Table.{kindAt, startAt, endAt}
+use Rattle.records.specs.Table.{kindAt, startAt, endAt}
 use Rattle.forest.specs.Forest.{Forest, inside}
-use Rattle.table.specs.Kinds.{isNode}
+use Rattle.records.specs.Kinds.{isNode}
 use Rattle.path.specs.declared.gathered.Next.the-variants.{Deepest}
 use Rattle.contexts.specs.declared.context.CursorContext.{CursorContext}
 use Rattle.contexts.specs.declared.context.CursorContext.the-variants.{Unknown}

@@ -4,7 +4,7 @@ use Prim.Native.Nat.{ℕ}
 use mathlib.Core.Bool.{Bool, cond}
 use mathlib.Core.List.{List}
 use lib.Dec.{eqb}
-use Rattle.table.specs.Table.{kindAt}
+use Rattle.records.specs.Table.{kindAt}
 use Rattle.forest.specs.Forest.{Forest, inside}
 use Rattle.path.specs.declared.gathered.Gathered.{Gathered}
 use Rattle.contexts.specs.declared.context.CursorContext.{CursorContext}

@@ -3,9 +3,9 @@
 use Prim.Native.Nat.{ℕ}
 use mathlib.Core.Path.{_≡_, refl}
 use mathlib.Core.List.{List, [], _∷_, _++_}
-use Rattle.table.specs.Kinds.{otherNode, file, queryList, error, selectStatement, insertStatement, selectClause, fromClause, joinClause, whereClause, orderByClause, settingsClause, settingList, engineClause, formatClause, insertFormatClause, joinConstraint, tableIdentifier, tableAlias, columnDefinition, columnTypeDefinition, columnCodec, functionCall, aggregateFunction, identifier, columnReference, otherToken, whitespace, bareWord, comma, openingRound, closingRound}
+use Rattle.records.specs.Kinds.{otherNode, file, queryList, error, selectStatement, insertStatement, selectClause, fromClause, joinClause, whereClause, orderByClause, settingsClause, settingList, engineClause, formatClause, insertFormatClause, joinConstraint, tableIdentifier, tableAlias, columnDefinition, columnTypeDefinition, columnCodec, functionCall, aggregateFunction, identifier, columnReference, otherToken, whitespace, bareWord, comma, openingRound, closingRound}
 use Rattle.lent.specs.Numbers.{word}
-use Rattle.table.specs.Table.{recordAt, run, from}
+use Rattle.records.specs.Table.{recordAt, run, from}
 use Rattle.forest.specs.Forest.{level, kids}
 use Rattle.forest.specs.Tokens.{only, tokensOf}
 use Rattle.forest.specs.Descent.{path, pathOf, along}

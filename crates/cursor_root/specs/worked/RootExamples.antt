@@ -3,9 +3,9 @@
 use Prim.Native.Nat.{ℕ}
 use mathlib.Core.Path.{_≡_, refl}
 use mathlib.Core.List.{List, [], _∷_, _++_}
-use Rattle.table.specs.Kinds.{file, selectStatement, subqueryExpression, bareWord}
+use Rattle.records.specs.Kinds.{file, selectStatement, subqueryExpression, bareWord}
 use Rattle.lent.specs.Numbers.{word}
-use Rattle.table.specs.Table.{recordAt, run, from}
+use Rattle.records.specs.Table.{recordAt, run, from}
 use Rattle.forest.specs.Forest.{level, kids}
 use Rattle.forest.specs.Descent.{path, pathOf}
 use Rattle.table.specs.worked.Worked.{rec}

@@ -4,9 +4,9 @@ use Prim.Native.Nat.{ℕ, _*_, _/_, _≤_, _<_}
 use mathlib.Core.Path.{_≡_}
 use mathlib.Core.List.{List}
 use lib.ListN.{length, getD}
-use Rattle.table.specs.Table.{count}
+use Rattle.records.specs.Table.{count}
 use Rattle.lent.specs.Numbers.{word, wordLimit}
-use Rattle.table.specs.Rules.{mostOffsets, offsetBytes}
+use Rattle.conditions.specs.Conditions.{mostOffsets, offsetBytes}
 use Rattle.forest.specs.inner.Ordered.{Ordered}
 use Rattle.path.specs.inner.Starts.{Starts}
 

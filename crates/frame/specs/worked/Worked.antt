@@ -8,9 +8,10 @@ use mathlib.Core.Bool.{cond}
 use mathlib.Core.List.{List, [], _∷_, _++_}
 use lib.Dec.{ltb}
 use Rattle.lent.specs.Numbers.{word}
-use Rattle.table.specs.Table.{recordAt, run, from}
+use Rattle.records.specs.Table.{recordAt, run, from}
 use Rattle.forest.specs.Forest.{level, kids, extent, stretchEnd}
-use Rattle.table.specs.Rules.{misplaced, nearest, lastEnd, badSpan, rulesFrom}
+use Rattle.conditions.specs.Conditions.{misplaced, nearest, lastEnd, badSpan}
+use Rattle.refusals.specs.ByRecord.{rulesFrom}
 use Rattle.lent.specs.Lists.{rowBytes, listBytes}
 use Rattle.lent.specs.Text.{text, bytesOf, upper, says}
 use Rattle.forest.specs.Tokens.{only, tokensOf}

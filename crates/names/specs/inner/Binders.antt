@@ -4,8 +4,8 @@ use Prim.Native.Nat.{ℕ}
 use mathlib.Core.Bool.{Bool, _||_}
 use mathlib.Core.List.{List}
 use lib.Dec.{eqb}
-use Rattle.table.specs.declared.record.Rec.{Rec}
-use Rattle.table.specs.Kinds.{withExpressionItem, columnList, expressionList, columnAlias}
+use Rattle.records.specs.declared.record.Rec.{Rec}
+use Rattle.records.specs.Kinds.{withExpressionItem, columnList, expressionList, columnAlias}
 use Rattle.forest.specs.Forest.{Forest}
 use Rattle.names.specs.declared.names.NameBinding.{NameBinding}
 use Rattle.names.specs.declared.names.Bound.{Bound}

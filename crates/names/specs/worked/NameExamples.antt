@@ -3,7 +3,7 @@ use Prim.Native.Nat.{ℕ}
 use Prim.Native.String.{String}
 use mathlib.Core.Path.{_≡_, refl}
 use lib.ListN.{length}
-use Rattle.table.specs.Kinds.{bareWord, quotedIdentifier}
+use Rattle.records.specs.Kinds.{bareWord, quotedIdentifier}
 use Rattle.lent.specs.Text.{bytesOf}
 use Rattle.names.specs.declared.names.NameRanges.{NameRanges}
 use Rattle.names.specs.Names.{unquoted, nameOf}

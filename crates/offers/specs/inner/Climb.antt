@@ -5,8 +5,8 @@ use Prim.Native.Nat.{ℕ, _+_, _-_, _*_}
 use mathlib.Core.Bool.{cond}
 use mathlib.Core.List.{List, [], _∷_}
 use lib.Dec.{ltb, eqb}
-use Rattle.table.specs.Table.{kindAt}
-use Rattle.table.specs.Rules.{mostRecords, mostDepth}
+use Rattle.records.specs.Table.{kindAt}
+use Rattle.conditions.specs.Conditions.{mostRecords, mostDepth}
 use Rattle.collection.specs.inner.Rows.{ownBytes}
 use Rattle.seen.specs.inner.Room.{rootBytes}
 use Rattle.path.specs.Path.{isSubquery}

@@ -4,9 +4,9 @@
 use Prim.Native.Nat.{ℕ}
 use mathlib.Core.Path.{_≡_, refl}
 use mathlib.Core.List.{List, [], _∷_, _++_, map}
-use Rattle.table.specs.Kinds.{file, selectStatement, withClause, selectClause, withExpressionItem, subqueryExpression, columnList, bareWord}
+use Rattle.records.specs.Kinds.{file, selectStatement, withClause, selectClause, withExpressionItem, subqueryExpression, columnList, bareWord}
 use Rattle.lent.specs.Numbers.{word}
-use Rattle.table.specs.Table.{recordAt, run, from}
+use Rattle.records.specs.Table.{recordAt, run, from}
 use Rattle.forest.specs.Forest.{level, kids, extent, stretchEnd}
 use Rattle.lent.specs.Text.{bytesOf, upper, text, says}
 use Rattle.table.specs.worked.Worked.{rec}

@@ -6,11 +6,13 @@ use mathlib.Core.Bool.{Bool, cond}
 use mathlib.Core.List.{List, [], _∷_, _++_, map}
 use lib.ListN.{length}
 use Rattle.lent.specs.declared.verdict.Verdict.the-variants.{Admitted}
-use Rattle.table.specs.Kinds.{file, selectStatement, withClause, fromClause, joinClause, whereClause, subqueryExpression, tableIdentifier, tableExpression, bareWord}
+use Rattle.records.specs.Kinds.{file, selectStatement, withClause, fromClause, joinClause, whereClause, subqueryExpression, tableIdentifier, tableExpression, bareWord}
 use Rattle.lent.specs.Numbers.{word}
-use Rattle.table.specs.Table.{recordAt, run, from}
+use Rattle.records.specs.Table.{recordAt, run, from}
 use Rattle.forest.specs.Forest.{level, kids, extent, stretchEnd}
-use Rattle.table.specs.Rules.{rulesFrom, misplaced, nearest, lastEnd, badSpan, verdict}
+use Rattle.conditions.specs.Conditions.{misplaced, nearest, lastEnd, badSpan}
+use Rattle.refusals.specs.ByRecord.{rulesFrom}
+use Rattle.table.specs.Rules.{verdict}
 use Rattle.forest.specs.Places.{Place, places, nodesOf, sum}
 use Rattle.lent.specs.Text.{bytesOf}
 use Rattle.table.specs.worked.Worked.{rec, child}

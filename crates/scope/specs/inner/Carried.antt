@@ -4,8 +4,8 @@ use Prim.Native.Nat.{ℕ, zero, suc, _<_}
 use mathlib.Core.Path.{_≡_}
 use mathlib.Core.Bool.{cond}
 use mathlib.Core.List.{List, [], _++_}
-use Rattle.table.specs.Kinds.{isNode}
-use Rattle.table.specs.Table.{count, kindAt, startAt, endAt, parentAt}
+use Rattle.records.specs.Kinds.{isNode}
+use Rattle.records.specs.Table.{count, kindAt, startAt, endAt, parentAt}
 use Rattle.classes.specs.TokenClass.{classOf}
 use Rattle.scope.specs.declared.semantic_tokens.ClassedToken.{ClassedToken}
 use Rattle.scope.specs.Classes.{entryOf, classesOf}

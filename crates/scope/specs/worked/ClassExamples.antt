@@ -4,7 +4,7 @@ use mathlib.Core.Path.{_≡_, refl}
 use mathlib.Core.Bool.{true, false}
 use mathlib.Core.List.{List, [], _∷_, _++_}
 use Rattle.lent.specs.Numbers.{word}
-use Rattle.table.specs.Table.{recordAt, run, from}
+use Rattle.records.specs.Table.{recordAt, run, from}
 use Rattle.forest.specs.Forest.{level, kids}
 use Rattle.lent.specs.Text.{bytesOf, upper, text}
 use Rattle.table.specs.worked.Worked.{rec}

@@ -2,9 +2,9 @@
 use mathlib.Core.Path.{_≡_, refl}
 use mathlib.Core.List.{List, [], _∷_, _++_, map}
 use Prim.Native.Nat.{ℕ}
-use Rattle.table.specs.Kinds.{file, selectStatement, withClause, selectClause, fromClause, joinClause, withExpressionItem, subqueryExpression, columnList, expressionList, tableIdentifier, tableExpression, tableAlias, columnAlias, bareWord, quotedIdentifier}
+use Rattle.records.specs.Kinds.{file, selectStatement, withClause, selectClause, fromClause, joinClause, withExpressionItem, subqueryExpression, columnList, expressionList, tableIdentifier, tableExpression, tableAlias, columnAlias, bareWord, quotedIdentifier}
 use Rattle.lent.specs.Numbers.{word}
-use Rattle.table.specs.Table.{recordAt, run, from}
+use Rattle.records.specs.Table.{recordAt, run, from}
 use Rattle.forest.specs.Forest.{level, kids, extent, stretchEnd}
 use Rattle.table.specs.worked.Worked.{rec}
 use Rattle.lent.specs.Text.{bytesOf, upper, text, says}

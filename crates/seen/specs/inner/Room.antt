@@ -1,7 +1,7 @@
 -- How many bytes there can be, so that no place wraps.
 -- Definitions only. A reader of the promise needs none of them.
 use Prim.Native.Nat.{ℕ, _*_}
-use Rattle.table.specs.Rules.{mostRecords}
+use Rattle.conditions.specs.Conditions.{mostRecords}
 use Rattle.names.specs.Bindings.{bindingBytes}
 
 -- of a clause's items, and of a root's clauses

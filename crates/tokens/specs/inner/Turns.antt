@@ -4,20 +4,20 @@ use Prim.Native.Nat.{ℕ}
 use mathlib.Core.Bool.{Bool, false, cond}
 use mathlib.Core.List.{List}
 use lib.Dec.{eqb, ltb}
-use Rattle.table.specs.Table.{kindAt, startAt, endAt, from}
+use Rattle.records.specs.Table.{kindAt, startAt, endAt, from}
 use Rattle.forest.specs.Forest.{Forest, kids}
 use Rattle.forest.specs.Tokens.{reached}
 use Rattle.forest.specs.Descent.{along}
-use Rattle.table.specs.Kinds.{openingRound, bareWord, identifier}
+use Rattle.records.specs.Kinds.{openingRound, bareWord, identifier}
 use Rattle.tokens.specs.declared.last_token.Name.{Name}
 use Rattle.tokens.specs.declared.last_token.Name.the-variants.{Nameless, Named}
 use Rattle.tokens.specs.declared.last_token.LastTwo.{LastTwo}
 use Rattle.tokens.specs.declared.function.Arguments.{Arguments}
 use Rattle.tokens.specs.declared.function.Naming.{Naming}
 use Rattle.tokens.specs.declared.function.Naming.the-variants.{Open, Is}
-use Rattle.tokens.specs.declared.sweep.Sought.{Sought}
-use Rattle.tokens.specs.declared.sweep.Sought.the-variants.{LastToken, ArgumentIndex}
-use Rattle.tokens.specs.declared.sweep.Swept.{Swept}
+use Rattle.tokens.specs.declared.turns.Sought.{Sought}
+use Rattle.tokens.specs.declared.turns.Sought.the-variants.{LastToken, ArgumentIndex}
+use Rattle.tokens.specs.declared.turns.Swept.{Swept}
 use Rattle.tokens.specs.LastToken.{counted, entered}
 use Rattle.tokens.specs.Function.{bareWordIn, opens, argued}
 

@@ -6,7 +6,7 @@ use Rattle.lent.proofs.Writes.{written-none, written-then}
 use Rattle.forest.proofs.Writing.{writing, writing-turn, writing-end}
 use Rattle.forest.proofs.Walks.{Walk, walk-start, walk-end, walk-next, walk-node}
 use Rattle.forest.specs.Forest.{kids}
-use Rattle.table.specs.Table.{records}
+use Rattle.records.specs.Table.{records}
 use lib.ListN.{length}
 use mathlib.Core.Path.{_≡_, sym, _∙_}
 use Prim.Native.Nat.{_+_, _-_, _*_, _≤_, ℕ, _<_}
@@ -20,8 +20,8 @@ use Rattle.collection.proofs.collection.collect_scope.Kinds as collect-
 use Rattle.collection.proofs.collection.+collect_scope.Lts-collect_scope as collect-scope-lts
 use Rattle.collection.proofs.collection.own_part.Reads as own-part-reads
 use Rattle.collection.proofs.collection.visits.Reads as visits-reads
-use Rattle.table.proofs.record.count_of.Reads as count-of-reads
-use Rattle.table.proofs.record.kind_at.Reads as kind-at-reads
+use Rattle.records.proofs.record.count_of.Reads as count-of-reads
+use Rattle.records.proofs.record.kind_at.Reads as kind-at-reads
 use Rattle.forest.proofs.stretch.child_from.Reads as child-from-reads
 use Rattle.forest.proofs.stretch.stretch_of.Reads as stretch-of-reads
 

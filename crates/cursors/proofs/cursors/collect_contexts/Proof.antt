@@ -2,7 +2,7 @@ use Rattle.cursors.proofs.CursorsLaws.{Taking, taking-start, taking-ste
 use Rattle.cursors.proofs.BegunLaws.{begun-first}
 use Rattle.cursors.specs.inner.Ready.{Begun}
 use Rattle.contexts.specs.Context.{coded}
-use Rattle.table.specs.Rules.{offsetBytes}
+use Rattle.conditions.specs.Conditions.{offsetBytes}
 use lib.ListN.{length}
 use borrow.Author.Needs.{needs}
 use mathlib.Core.Path.{_≡_, refl, ap, _∙_}

@@ -5,7 +5,7 @@ use Rattle.lent.proofs.Writes.{written-none}
 use Rattle.forest.proofs.Writing.{writing, writing-turn, writing-end}
 use Rattle.forest.proofs.Walks.{Walk, walk-start, walk-end, walk-next, walk-node}
 use Rattle.forest.specs.Forest.{kids}
-use Rattle.table.specs.Table.{records}
+use Rattle.records.specs.Table.{records}
 use lib.ListN.{length}
 use mathlib.Core.Path.{_≡_}
 use Prim.Native.Nat.{_+_, _-_, _*_, _≤_, ℕ, _<_}
@@ -21,8 +21,8 @@ use Rattle.names.proofs.bindings.extract_bound.Reads as extract-bound-r
 use Rattle.names.proofs.bindings.is_binder.Reads as is-binder-reads
 use Rattle.names.proofs.bindings.is_list.Reads as is-list-reads
 use Rattle.names.proofs.bindings.put_bound.Reads as put-bound-reads
-use Rattle.table.proofs.record.count_of.Reads as count-of-reads
-use Rattle.table.proofs.record.kind_at.Reads as kind-at-reads
+use Rattle.records.proofs.record.count_of.Reads as count-of-reads
+use Rattle.records.proofs.record.kind_at.Reads as kind-at-reads
 use Rattle.forest.proofs.stretch.child_from.Reads as child-from-reads
 use Rattle.forest.proofs.stretch.stretch_of.Reads as stretch-of-reads
 

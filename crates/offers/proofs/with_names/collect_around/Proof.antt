@@ -1,6 +1,6 @@
 use Rattle.offers.proofs.ClimbLaws.{outer-bound, outer-within, Climbing, climb-start, climb-query, climb-other, climb-none, climb-last}
 use Rattle.seen.specs.inner.Room.{rootBytes}
-use Rattle.table.specs.Table.{count, depthAt}
+use Rattle.records.specs.Table.{count, depthAt}
 use lib.ListN.{length}
 use mathlib.Core.Path.{_≡_}
 use Prim.Native.Nat.{_+_, _*_, _≤_}

@@ -12,9 +12,9 @@ use Rattle.statement.proofs.statement.first_find.Reads as first-find
 use Rattle.statement.proofs.statement.first_find.Kinds as first-find-kinds
 use Rattle.statement.proofs.statement.+first_find.Lts-first_find as first-find-lts
 use Rattle.statement.proofs.statement.else_itself.Reads as else-itself-reads
-use Rattle.table.proofs.range.is_holder.Reads as is-holder-reads
-use Rattle.table.proofs.record.count_of.Reads as count-of-reads
-use Rattle.table.proofs.record.kind_at.Reads as kind-at-reads
+use Rattle.records.proofs.range.is_holder.Reads as is-holder-reads
+use Rattle.records.proofs.record.count_of.Reads as count-of-reads
+use Rattle.records.proofs.record.kind_at.Reads as kind-at-reads
 use Rattle.forest.proofs.stretch.child_from.Reads as child-from-reads
 use Rattle.forest.proofs.stretch.rest_from.Reads as rest-from-reads
 

@@ -1,5 +1,5 @@
 use Rattle.table.specs.Rules.{verdict}
-use Rattle.table.specs.inner.Step.{verdictOn}
+use Rattle.table.specs.inner.Whole.{verdictOn}
 use borrow.Author.Needs.{needs}
 use Rattle.table.proofs.check.check.Statement.{statement}
 use Rattle.table.proofs.check.check.Tie as tie

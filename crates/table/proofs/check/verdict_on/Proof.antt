@@ -1,5 +1,5 @@
 use Rattle.table.proofs.Checks.{few, some}
-use Rattle.table.specs.inner.Step.{verdictOn}
+use Rattle.table.specs.inner.Whole.{verdictOn}
 use mathlib.Core.Path.{sym, _∙_}
 use borrow.Author.Needs.{needs}
 use Rattle.table.proofs.check.verdict_on.Statement.{statement}

@@ -3,7 +3,7 @@ use Rattle.tables.specs.Tables.{fresh}
 use Rattle.names.specs.Names.{isPart, direct}
 use Rattle.forest.proofs.Walks.{Walk, walk-from, walk-end, walk-next}
 use Rattle.forest.specs.Forest.{kids}
-use Rattle.table.specs.Table.{records, recordAt}
+use Rattle.records.specs.Table.{records, recordAt}
 use mathlib.Core.Path.{_∙_, sym}
 use Prim.Native.Nat.{_-_, _≤_, _<_}
 use native.Mathlib.Omega.{arith}

@@ -6,7 +6,7 @@ use Rattle.lent.proofs.Writes.{written-none, written-then}
 use Rattle.forest.proofs.Writing.{writing, writing-turn, writing-last}
 use Rattle.forest.proofs.Walks.{Walk, walk-start, walk-end, walk-next, walk-node}
 use Rattle.forest.specs.Forest.{kids}
-use Rattle.table.specs.Table.{records}
+use Rattle.records.specs.Table.{records}
 use lib.ListN.{length}
 use mathlib.Core.Path.{_≡_}
 use Prim.Native.Nat.{_+_, _-_, _*_, _≤_, ℕ, _<_}
@@ -23,8 +23,8 @@ use Rattle.tables.proofs.pending.extract_table_identifier.Reads as extr
 use Rattle.tables.proofs.tables.hand_on.Reads as hand-on-reads
 use Rattle.tables.proofs.tables.put_alias.Reads as put-alias-reads
 use Rattle.tables.proofs.pending.with_alias.Reads as with-alias-reads
-use Rattle.table.proofs.record.count_of.Reads as count-of-reads
-use Rattle.table.proofs.record.kind_at.Reads as kind-at-reads
+use Rattle.records.proofs.record.count_of.Reads as count-of-reads
+use Rattle.records.proofs.record.kind_at.Reads as kind-at-reads
 use Rattle.forest.proofs.stretch.child_from.Reads as child-from-reads
 use Rattle.forest.proofs.stretch.stretch_of.Reads as stretch-of-reads
 

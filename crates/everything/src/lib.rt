@@ -1,0 +1,2 @@
+// Everything at a cursor in one call.
+pub mod everything;

@@ -1,0 +1,221 @@
+-- The fast check: a loop that only says that every record is in order.
+--     InOrder, order-start, -node, -token, -end    the loop: what it says is that the rules admit the table
+-- Assumes nothing.
+use Prim.Native.Nat.{ℕ, zero, suc, _+_, _-_, _≤_, _<_}
+use mathlib.Core.Path.{_≡_, refl, sym, ap, _∙_}
+use mathlib.Core.Bool.{Bool, true, false, cond, not, _&&_, _||_}
+use mathlib.Core.Logic.{⊎-elim}
+use mathlib.Core.List.{List}
+use native.Mathlib.Numerals.{add-one}
+use native.Mathlib.Nat.{zero-add}
+use native.Mathlib.Omega.{arith}
+use borrow.Author.Tests.{le-ltb, le-leb, lt-leb, eq-eqb, ne-eqb, ltb-true, ltb-false, leb-true, eqb-true}
+use lib.Dec.{eqb, ltb, leb}
+use lib.ListN.{length, getD, set, replicate, length-set}
+use lib.Seq.{getD-set-same, getD-set-other}
+use Rattle.lent.specs.declared.verdict.Verdict.the-variants.{Admitted}
+use Rattle.records.specs.Kinds.{isNode, isToken, lastNode, otherToken}
+use Rattle.lent.specs.Numbers.{wordLimit}
+use Rattle.records.specs.Table.{count, kindAt, depthAt, startAt, endAt, parentAt, recordAt}
+use Rattle.conditions.specs.Conditions.{mostDepth, unlisted, misplaced, tooDeep, nearest, parentOf, wrongParent, badSpan, lastEnd}
+use Rattle.refusals.specs.ByRecord.{rulesFrom}
+use Rattle.lent.specs.Verdicts.{first}
+use Rattle.conditions.specs.inner.Step.{depths, deepestNext, knownAt, outOfPlace}
+use Rattle.in_order.specs.inner.Fast.{firstFits, tokenFits, deepestUnder}
+use Rattle.lent.proofs.Cases.{lt-or-le, eq-or-not, both}
+use Rattle.conditions.proofs.Steps.{place-at}
+
+-- what is false says nothing
+pub never : {A : Type 0} → false ≡ true → A
+never e = absurd (let z : _≡_ {A = ℕ} 0 1 = cc in omega arith)
+
+-- a node is no token
+node-token : (k : ℕ) → k ≤ lastNode → isToken k ≡ false
+node-token k h = rw (lt-leb otherToken k (omega arith))
+
+module _ (t : List ℕ) where
+  -- record j keeps its rules, but for where the source ends
+  pub record Kept (j : ℕ) : Type 0 where
+    pub listed : unlisted t j ≡ false
+    pub placed : misplaced t j ≡ false
+    pub shallow : tooDeep t j ≡ false
+    pub parented : wrongParent t j ≡ false
+    pub spanned : isToken (kindAt t j) ≡ true → (startAt t j ≤ endAt t j) × (lastEnd t j ≤ startAt t j)
+
+  -- before record i
+  pub record InOrder (i limit last : ℕ) (above : List ℕ) : Type 0 where
+    pub kept : (j : ℕ) → j < i → Kept j
+    pub reach : limit ≤ deepestNext t i
+    pub shallow : limit ≤ mostDepth
+    pub ends : last ≡ lastEnd t i
+    pub wide : length above ≡ depths
+    pub none : getD above 0 0 ≡ wordLimit
+    pub parents : (d : ℕ) → 1 ≤ d → d ≤ limit → getD above d 0 ≡ nearest t d i
+
+  pub order-start : firstFits t ≡ true → InOrder 1 1 0 (set (replicate depths 0) 0 wordLimit)
+  unfolding misplaced nearest deepestNext lastEnd
+  order-start e =
+      let b = both (isNode (kindAt t 0) && eqb (depthAt t 0) 0) (eqb (parentAt t 0) 0) e in
+      let a = both (isNode (kindAt t 0)) (eqb (depthAt t 0) 0) (b .0) in
+      let d : depthAt t 0 ≡ 0 = eqb-true (depthAt t 0) 0 (a .1) in
+      let x : isToken (kindAt t 0) ≡ false = node-token (kindAt t 0) (leb-true (kindAt t 0) lastNode (a .0)) in
+      record {
+        kept = λ j h.
+            let z : j ≡ 0 = omega arith in
+            rw z
+            (record {
+              listed = rw (a .0);
+              placed = rw (a .0, a .1);
+              shallow = rw d;
+              parented = rw (b .1);
+              spanned = λ y. absurd (let q : _≡_ {A = ℕ} 0 1 = cc in omega arith);
+            });
+        reach = rw (x, d) (omega arith);
+        shallow = omega arith;
+        ends = rw x;
+        wide = refl;
+        none = refl;
+        parents = λ k p q. let z : k ≡ 1 = omega arith in rw (z, d);
+      }
+
+  module _ {i limit last : ℕ} {above : List ℕ} (w : InOrder i limit last above) (s : 1 ≤ i) (h : i < count t)
+      {d : ℕ} (e : d ≡ depthAt t i) (l : d ≤ limit) (p : parentAt t i ≡ getD above d 0) (small : parentAt t i < wordLimit) where
+    -- nothing carries what stands for depth 0
+    under : 1 ≤ d
+    under = ⊎-elim (λ g. g) (λ g. let z : d ≡ 0 = omega arith in absurd (omega (arith, rw z at p, w .none))) (lt-or-le 0 d)
+
+    place : misplaced t i ≡ false
+    place = sym (place-at t i) ∙ (unfold outOfPlace knownAt recordAt in rw (zero-add i, ne-eqb i 0 (λ z. omega arith), ← e, ne-eqb d 0 (λ z. omega (arith, under)), le-ltb (deepestNext t i) d (omega (arith, w .reach))))
+
+    deep : tooDeep t i ≡ false
+    deep = rw (← e) (le-ltb mostDepth d (omega (arith, w .shallow)))
+
+    parent : wrongParent t i ≡ false
+    parent = rw (eq-eqb (parentAt t i) (parentOf t i) (p ∙ w .parents d under l ∙ rw e))
+
+    -- the records before, and this one
+    further : Kept i → (j : ℕ) → j < suc i → Kept j
+    further k j g = ⊎-elim (λ x. w .kept j x) (λ x. let z : j ≡ i = omega arith in rw z k) (lt-or-le j i)
+
+    -- the last record one less deep than k is the same after this one, but for what is below it
+    same : (k : ℕ) → (d + 1 ≡ k → ⊥) → nearest t k (suc i) ≡ nearest t k i
+    unfolding nearest
+    same k f = rw (← e, ne-eqb (d + 1) k f)
+
+    pub order-node : kindAt t i ≤ lastNode → {above′ : List ℕ} {limit′ : ℕ} → above′ ≡ set above (d + 1) i → limit′ ≡ deepestUnder d
+        → InOrder (i + 1) limit′ last above′
+    unfolding nearest deepestNext lastEnd
+    order-node k {above′} {limit′} q r =
+        let x : isToken (kindAt t i) ≡ false = node-token (kindAt t i) k in
+        rw (add-one i)
+        (record {
+          kept = further
+              (record {
+                listed = rw (le-leb (kindAt t i) lastNode k);
+                placed = place;
+                shallow = deep;
+                parented = parent;
+                spanned = λ y. absurd (let z : _≡_ {A = ℕ} 0 1 = cc in omega arith);
+              });
+          reach = rw (x, ← e) (omega (arith, bound));
+          shallow = omega (arith, bound);
+          ends = rw x (w .ends);
+          wide = rw q (length-set above (d + 1) i ∙ w .wide);
+          none = rw q (getD-set-other above (d + 1) 0 i 0 (λ z. omega arith) ∙ w .none);
+          parents = λ n a b. rw q (found n a (omega (arith, bound)));
+        })
+      where
+        bound : (limit′ ≤ d + 1) × (limit′ ≤ mostDepth)
+        bound = rw r (go (ltb d mostDepth) refl)
+          where
+            go : (c : Bool) → ltb d mostDepth ≡ c → (cond c (d + 1) mostDepth ≤ d + 1) × (cond c (d + 1) mostDepth ≤ mostDepth)
+            go true y = omega (arith, ltb-true d mostDepth y)
+            go false y = omega (arith, ltb-false d mostDepth y)
+
+        found : (n : ℕ) → 1 ≤ n → n ≤ d + 1 → getD (set above (d + 1) i) n 0 ≡ nearest t n (suc i)
+        found n a b =
+            ⊎-elim
+            (λ z. rw (← e, eq-eqb (d + 1) n z, ← z) (getD-set-same above (d + 1) i 0 (omega (arith, w .wide, w .shallow))))
+            (λ z. getD-set-other above (d + 1) n i 0 (λ y. z (sym y)) ∙ w .parents n a (omega arith) ∙ sym (same n z))
+            (eq-or-not (d + 1) n)
+
+    pub order-token : {last′ : ℕ} → tokenFits (kindAt t i) (startAt t i) (endAt t i) last ≡ true → last′ ≡ endAt t i → InOrder (i + 1) d last′ above
+    unfolding deepestNext lastEnd
+    order-token f q =
+        let b = both (isToken (kindAt t i) && not (ltb (startAt t i) last)) (leb (startAt t i) (endAt t i)) f in
+        let a = both (isToken (kindAt t i)) (not (ltb (startAt t i) last)) (b .0) in
+        let x : isToken (kindAt t i) ≡ true = a .0 in
+        rw (add-one i)
+        (record {
+          kept = further
+              (record {
+                listed = rw x (listed (isNode (kindAt t i)));
+                placed = place;
+                shallow = deep;
+                parented = parent;
+                spanned = λ y. (leb-true (startAt t i) (endAt t i) (b .1), omega (arith, ltb-false (startAt t i) last (not-true _ (a .1)), w .ends));
+              });
+          reach = rw (x, e) (omega arith);
+          shallow = omega (arith, w .shallow);
+          ends = rw x q;
+          wide = w .wide;
+          none = w .none;
+          parents = λ n u v. w .parents n u (omega arith) ∙ sym (same n (λ z. omega arith));
+        })
+      where
+        listed : (c : Bool) → not (c || true) ≡ false
+        listed true = refl
+        listed false = refl
+
+        not-true : (c : Bool) → not c ≡ true → c ≡ false
+        not-true true y = sym y
+        not-true false y = refl
+
+  -- ---- after the last record
+
+  module _ (i : ℕ) (kept : (j : ℕ) → j < i → Kept j) where
+    -- ends rise
+    rising : (m j : ℕ) → m ≤ i → j < m → isToken (kindAt t j) ≡ true → endAt t j ≤ lastEnd t m
+    unfolding lastEnd
+    rising zero j g h k = absurd (omega arith)
+    rising (suc m) j g h k = go (isToken (kindAt t m)) refl (rising m j (omega arith))
+      where
+        go : (b : Bool) → isToken (kindAt t m) ≡ b → (j < m → isToken (kindAt t j) ≡ true → endAt t j ≤ lastEnd t m) → endAt t j ≤ cond b (endAt t m) (lastEnd t m)
+        go true e ih =
+            let y = kept m (omega arith) .spanned e in
+            ⊎-elim
+            (λ x. omega (arith, ih x k, y))
+            (λ x. let z : j ≡ m = omega arith in omega (arith, ap (endAt t) z))
+            (lt-or-le j m)
+        go false e ih =
+            ⊎-elim
+            (λ x. ih x k)
+            (λ x. let z : j ≡ m = omega arith in absurd (let q : _≡_ {A = ℕ} 0 1 = cc in omega arith))
+            (lt-or-le j m)
+
+    span : (n j : ℕ) → lastEnd t i ≤ n → j < i → badSpan t n j ≡ false
+    unfolding badSpan
+    span n j l h = go (isToken (kindAt t j)) refl
+      where
+        go : (b : Bool) → isToken (kindAt t j) ≡ b → (b && (ltb (endAt t j) (startAt t j) || ltb n (endAt t j) || ltb (startAt t j) (lastEnd t j))) ≡ false
+        go true e =
+            let y = kept j h .spanned e in
+            rw (
+              le-ltb (endAt t j) (startAt t j) (y .0),
+              le-ltb n (endAt t j) (omega (arith, rising i j (omega arith) h e)),
+              le-ltb (startAt t j) (lastEnd t j) (y .1),
+            )
+        go false e = refl
+
+    all : (n c k : ℕ) → lastEnd t i ≤ n → k + c ≡ i → first (rulesFrom t n k c) ≡ Admitted
+    unfolding rulesFrom
+    all n zero k l z = refl
+    all n (suc c) k l z =
+        let y = kept k (omega arith) in
+        rw (y .listed, y .placed, y .shallow, y .parented, span n k l (omega arith)) (all n c (suc k) l (omega arith))
+
+  pub order-end : {i limit last n : ℕ} {above : List ℕ} → InOrder i limit last above → count t ≤ i → i ≤ count t → last ≤ n
+      → Admitted ≡ first (rulesFrom t n 0 (count t))
+  order-end {i} {limit} {last} {n} w a b l =
+      let z : i ≡ count t = omega arith in
+      sym (rw (← z) (all i (w .kept) n i 0 (omega (arith, w .ends)) (omega arith)))

@@ -1,0 +1,3 @@
+pub mod Early
+pub mod Functions
+pub mod Sweeping
