@@ -1,6 +1,7 @@
 pub mod Above
 pub mod Descents
 pub mod Laws
+pub mod Limits
 pub mod NodeWalks
 pub mod Orders
 pub mod Owned

@@ -6,7 +6,8 @@ use mathlib.Core.List.{List}
 use lib.ListN.{take}
 use Rattle.records.specs.Table.{recordBytes}
 use Rattle.lines.specs.Lines.{Line, mostBytes, mostLines}
-use Rattle.report.specs.Output.{refusalLine, unlessRefused, replied}
+use Rattle.print.specs.Printed.{refusalLine}
+use Rattle.report.specs.Output.{unlessRefused, replied}
 use Rattle.frame.specs.Glance.{repliedTo}
 use Rattle.lines.specs.inner.Reading.{ReadFrame}
 use Rattle.lines.specs.declared.input.Frame.{Frame}

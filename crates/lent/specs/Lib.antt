@@ -1,3 +1,4 @@
+pub mod Fit32
 pub mod Lists
 pub mod Numbers
 pub mod Text

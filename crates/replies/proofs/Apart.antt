@@ -1,38 +1,49 @@
--- A reply's number tells it apart from every other: two replies that C gets as one number are equal.
--- Of a reply is asked what its 32-bit fields give: each number is below `half`; that a refusal's number is not 0, which
--- `numbered` proves of document 01's rules; and that a hint or a statement names a record below `none`, as
--- every record of a table is.
-use Prim.Native.Nat.{ℕ, zero, suc, _<_}
+-- A reply's number tells it apart from every other: two replies that questions give and that C gets as one number are equal.
+-- That takes two things: a refusal's number is not 0 and fits its half, as every rule's does; and a hint or a statement names a record
+-- below `none`, as every record of an admitted table is.
+--     apart     THE THEOREM
+-- Assumes nothing.
+use Prim.Native.Nat.{ℕ, zero, suc, _≤_, _<_}
 use mathlib.Core.Path.{_≡_, refl, sym, ap, _∙_}
 use mathlib.Core.Bool.{Bool, true, false, cond}
 use mathlib.Core.List.{List, [], _∷_, _++_}
 use native.Mathlib.Omega.{arith}
+use lib.ListN.{length}
 use Rattle.lent.specs.declared.verdict.Verdict.{Verdict}
 use Rattle.lent.specs.declared.verdict.Verdict.the-variants.{Admitted, Refused}
 use Rattle.lent.specs.declared.list.Listed.{Listed}
 use Rattle.lent.specs.declared.list.Listed.the-variants.{Entries, Refused as Denied}
 use Rattle.lent.specs.Verdicts.{Rule, rule, first}
+use Rattle.conditions.specs.Conditions.{noRoot, noSuchRecord}
 use Rattle.refusals.specs.ByRecord.{rulesFrom}
-use Rattle.table.specs.Rules.{rules, rootRules, numberRules, offsetRules}
-use Rattle.lent.specs.Lists.{roomRule}
+use Rattle.table.specs.Rules.{rules, verdict}
+use Rattle.lent.specs.Lists.{roomRule, reply, listed}
+use Rattle.brackets.specs.declared.bracket_matching.Hint.{Hint}
 use Rattle.brackets.specs.declared.bracket_matching.Hint.the-variants.{Opener, NoOpener}
 use Rattle.brackets.specs.declared.bracket_matching.HintReply.{HintReply}
 use Rattle.brackets.specs.declared.bracket_matching.HintReply.the-variants.{Hinted, Refused as Unhinted}
+use Rattle.brackets.specs.Brackets.{hinted}
+use Rattle.brackets.proofs.Fitting.{hint-within}
+use Rattle.statement.specs.declared.statement.Enclosing.{Enclosing}
+use Rattle.statement.specs.declared.statement.Enclosing.the-variants.{Outside, Record}
 use Rattle.statement.specs.declared.statement.StatementReply.{StatementReply}
 use Rattle.statement.specs.declared.statement.StatementReply.the-variants.{Statement, NoStatement, Refused as Unstated}
+use Rattle.statement.specs.Statement.{told, statementReply}
+use Rattle.statement.proofs.Fitting.{statement-within}
 use Rattle.cursor_root.specs.declared.root.RootReply.{RootReply}
 use Rattle.cursor_root.specs.declared.root.RootReply.the-variants.{Root, Refused as Unrooted}
+use Rattle.cursor_root.specs.Root.{rootAt, rootReply}
+use Rattle.replies.specs.Apart.{hintFor, statementFor, ListRules, of-table, of-root, of-record, of-offsets, Apart}
 use Rattle.replies.specs.Reply.{half, noRecord, packed, verdictReply, listReply, hintRecord, hintReply, statementNumber, rootNumber}
 
 -- the halves of a number come back
-pub halves : (a b c d : ℕ) → a < half → c < half → packed a b ≡ packed c d → (a ≡ c) × (b ≡ d)
+halves : (a b c d : ℕ) → a < half → c < half → packed a b ≡ packed c d → (a ≡ c) × (b ≡ d)
 halves a b c d p q e = (omega arith, omega arith)
 
--- a refusal as its 32-bit fields hold it
-pub record Numbers (k d : ℕ) : Type 0 where
-  pub some : 0 < k
-  pub low : k < half
-  pub high : d < half
+-- a refusal's number: not 0, which is an answer's, and it fits its half
+record Proper (k : ℕ) : Type 0 where
+  some : 0 < k
+  low : k < half
 
 -- one kind of reply is told apart as another is, where each comes back from what it is read as
 through : {R S : Type 0} (read : R → S) (back : S → R) → ((v : R) → back (read v) ≡ v) → (v w : R) → read v ≡ read w → v ≡ w
@@ -40,11 +51,11 @@ through read back same v w e = sym (same v) ∙ ap back e ∙ same w
 
 -- ---- a number or a refusal: a list; a root and a verdict are read as one
 
-unfoldable pub Lists : Listed → Type 0
-Lists (Entries n) = n < half
-Lists (Denied k d) = Numbers k d
+unfoldable Lists : Listed → Type 0
+Lists (Entries n) = Unit
+Lists (Denied k d) = Proper k
 
-pub list-apart : (v w : Listed) → Lists v → Lists w → listReply v ≡ listReply w → v ≡ w
+list-apart : (v w : Listed) → Lists v → Lists w → listReply v ≡ listReply w → v ≡ w
 unfolding Lists listReply
 list-apart (Entries n) (Entries m) p q e = let s : n ≡ m = omega arith in cc
 list-apart (Entries n) (Denied k d) p q e = absurd (omega arith)
@@ -54,7 +65,7 @@ list-apart (Denied k d) (Denied l f) p q e =
     let s0 : k ≡ l = s .0 in
     let s1 : d ≡ f = s .1 in cc
 
-unfoldable pub rootAsList : RootReply → Listed
+unfoldable rootAsList : RootReply → Listed
 rootAsList (Root i) = Entries i
 rootAsList (Unrooted k d) = Denied k d
 
@@ -72,11 +83,11 @@ unfolding rootAsList rootNumber listReply
 root-number (Root i) = refl
 root-number (Unrooted k d) = refl
 
-pub root-apart : (v w : RootReply) → Lists (rootAsList v) → Lists (rootAsList w) → rootNumber v ≡ rootNumber w → v ≡ w
+root-apart : (v w : RootReply) → Lists (rootAsList v) → Lists (rootAsList w) → rootNumber v ≡ rootNumber w → v ≡ w
 root-apart v w p q e = through rootAsList listAsRoot root-back v w (list-apart (rootAsList v) (rootAsList w) p q (sym (root-number v) ∙ e ∙ root-number w))
 
 -- what is admitted is read as no entries
-unfoldable pub verdictAsList : Verdict → Listed
+unfoldable verdictAsList : Verdict → Listed
 verdictAsList Admitted = Entries 0
 verdictAsList (Refused k d) = Denied k d
 
@@ -94,18 +105,18 @@ unfolding verdictAsList verdictReply listReply
 verdict-number Admitted = refl
 verdict-number (Refused k d) = refl
 
-pub verdict-apart : (v w : Verdict) → Lists (verdictAsList v) → Lists (verdictAsList w) → verdictReply v ≡ verdictReply w → v ≡ w
+verdict-apart : (v w : Verdict) → Lists (verdictAsList v) → Lists (verdictAsList w) → verdictReply v ≡ verdictReply w → v ≡ w
 verdict-apart v w p q e =
     through verdictAsList listAsVerdict verdict-back v w (list-apart (verdictAsList v) (verdictAsList w) p q (sym (verdict-number v) ∙ e ∙ verdict-number w))
 
 -- ---- a record, none or a refusal: a statement; a hint is read as one
 
-unfoldable pub Statements : StatementReply → Type 0
+unfoldable Statements : StatementReply → Type 0
 Statements (Statement i) = i < noRecord
-Statements NoStatement = 0 < noRecord
-Statements (Unstated k d) = Numbers k d
+Statements NoStatement = Unit
+Statements (Unstated k d) = Proper k
 
-pub statement-apart : (v w : StatementReply) → Statements v → Statements w → statementNumber v ≡ statementNumber w → v ≡ w
+statement-apart : (v w : StatementReply) → Statements v → Statements w → statementNumber v ≡ statementNumber w → v ≡ w
 unfolding Statements statementNumber
 statement-apart (Statement i) (Statement j) p q e = let s : i ≡ j = omega arith in cc
 statement-apart (Statement i) NoStatement p q e = absurd (omega arith)
@@ -120,7 +131,7 @@ statement-apart (Unstated k d) (Unstated l f) p q e =
     let s0 : k ≡ l = s .0 in
     let s1 : d ≡ f = s .1 in cc
 
-unfoldable pub hintAsStatement : HintReply → StatementReply
+unfoldable hintAsStatement : HintReply → StatementReply
 hintAsStatement (Hinted (Opener i)) = Statement i
 hintAsStatement (Hinted NoOpener) = NoStatement
 hintAsStatement (Unhinted k d) = Unstated k d
@@ -142,46 +153,110 @@ hint-number (Hinted (Opener i)) = refl
 hint-number (Hinted NoOpener) = refl
 hint-number (Unhinted k d) = refl
 
-pub hint-apart : (v w : HintReply) → Statements (hintAsStatement v) → Statements (hintAsStatement w) → hintReply v ≡ hintReply w → v ≡ w
+hint-apart : (v w : HintReply) → Statements (hintAsStatement v) → Statements (hintAsStatement w) → hintReply v ≡ hintReply w → v ≡ w
 hint-apart v w p q e =
     through hintAsStatement statementAsHint hint-back v w (statement-apart (hintAsStatement v) (hintAsStatement w) p q (sym (hint-number v) ∙ e ∙ hint-number w))
 
--- ---- a refusal's number is not 0: no rule has that number
+-- ---- a refusal's number is proper: every rule's is
 
-pub data Numbered : List Rule → Type 0 where
-  done : Numbered []
-  more : (k d : ℕ) (b : Bool) {rs : List Rule} → 0 < k → Numbered rs → Numbered (rule k d b ∷ rs)
+unfoldable ProperRules : List Rule → Type 0
+ProperRules [] = Unit
+ProperRules (r ∷ rs) = Proper (r .number) × ProperRules rs
 
-both : {rs ss : List Rule} → Numbered rs → Numbered ss → Numbered (rs ++ ss)
-both done q = q
-both (more k d b h p) q = more k d b h (both p q)
+proper : (k : ℕ) → 0 < k → k ≤ 12 → Proper k
+proper k h g = record { some = h; low = omega arith }
 
-from-record : (t : List ℕ) (n i c : ℕ) → Numbered (rulesFrom t n i c)
-unfolding rulesFrom
-from-record t n i zero = done
+both : (rs ss : List Rule) → ProperRules rs → ProperRules ss → ProperRules (rs ++ ss)
+unfolding ProperRules
+both [] ss p q = q
+both (r ∷ rs) ss p q = (p .0, both rs ss (p .1) q)
+
+one : (k d : ℕ) (b : Bool) → 0 < k → k ≤ 12 → ProperRules (rule k d b ∷ [])
+unfolding ProperRules
+one k d b h g = (proper k h g, tt)
+
+from-record : (t : List ℕ) (n i c : ℕ) → ProperRules (rulesFrom t n i c)
+unfolding rulesFrom ProperRules
+from-record t n i zero = tt
 from-record t n i (suc c) =
-    more 3 i _ (omega arith) (more 4 i _ (omega arith) (more 5 i _ (omega arith) (more 12 i _ (omega arith) (more 6 i _ (omega arith) (from-record t n (suc i) c)))))
+    (proper 3 (omega arith) (omega arith), (proper 4 (omega arith) (omega arith), (proper 5 (omega arith) (omega arith), (proper 12 (omega arith) (omega arith), (proper 6 (omega arith) (omega arith), from-record t n (suc i) c)))))
 
-pub all-rules : (t : List ℕ) (n m : ℕ) → Numbered (rules t n m)
-all-rules t n m = more 1 0 _ (omega arith) (more 2 0 _ (omega arith) (from-record t n 0 _))
+of-rules : (t : List ℕ) (n m : ℕ) → ProperRules (rules t n m)
+unfolding ProperRules
+of-rules t n m = (proper 1 (omega arith) (omega arith), (proper 2 (omega arith) (omega arith), from-record t n 0 _))
 
-pub root-rules : (t : List ℕ) (n i : ℕ) → Numbered (rootRules t n i)
-root-rules t n i = both (all-rules t n 0) (more 8 0 _ (omega arith) done)
+of-lists : {rs : List Rule} → ListRules rs → ProperRules rs
+unfolding ProperRules
+of-lists (of-table t n e) = rw e (of-rules t n 0)
+of-lists (of-root t n i e) = rw e (both (rules t n 0) _ (of-rules t n 0) (one 8 0 (noRoot t i) (omega arith) (omega arith)))
+of-lists (of-record t n i e) = rw e (both (rules t n 0) _ (of-rules t n 0) (one 8 0 (noSuchRecord t i) (omega arith) (omega arith)))
+of-lists (of-offsets t n b e) =
+    rw e (proper 1 (omega arith) (omega arith), (proper 2 (omega arith) (omega arith), (proper 10 (omega arith) (omega arith), from-record t n 0 _)))
 
-pub number-rules : (t : List ℕ) (n i : ℕ) → Numbered (numberRules t n i)
-number-rules t n i = both (all-rules t n 0) (more 8 0 _ (omega arith) done)
+unfoldable ProperVerdict : Verdict → Type 0
+ProperVerdict Admitted = Unit
+ProperVerdict (Refused k d) = Proper k
 
-pub offset-rules : (t : List ℕ) (n b : ℕ) → Numbered (offsetRules t n b)
-offset-rules t n b = more 1 0 _ (omega arith) (more 2 0 _ (omega arith) (more 10 0 _ (omega arith) (from-record t n 0 _)))
+proper-first : (rs : List Rule) → ProperRules rs → ProperVerdict (first rs)
+unfolding ProperRules
+proper-first [] p = unfold ProperVerdict in tt
+proper-first (r ∷ rs) p = go (r .broken) (p .0) (proper-first rs (p .1))
+  where
+    go : (b : Bool) → Proper (r .number) → ProperVerdict (first rs) → ProperVerdict (cond b (Refused (r .number) (r .detail)) (first rs))
+    go true h w = unfold ProperVerdict in h
+    go false h w = w
 
-pub with-room : {E : Type 0} {rs : List Rule} (row : E → List ℕ) (es : List E) (out : List ℕ) →
-    Numbered rs → Numbered (rs ++ roomRule row es out ∷ [])
-with-room row es out p = both p (more 7 _ _ (omega arith) done)
+proper-verdict : (t : List ℕ) (n m : ℕ) → ProperVerdict (verdict t n m)
+unfolding verdict
+proper-verdict t n m = proper-first (rules t n m) (of-rules t n m)
 
-by-head : (b : Bool) (j f k d : ℕ) (rest : Verdict) → 0 < j → (rest ≡ Refused k d → 0 < k) → cond b (Refused j f) rest ≡ Refused k d → 0 < k
-by-head true j f k d rest h on e = let s : j ≡ k = cc in omega arith
-by-head false j f k d rest h on e = on e
+-- ---- the replies that questions give
 
-pub numbered : {rs : List Rule} (k d : ℕ) → Numbered rs → first rs ≡ Refused k d → 0 < k
-numbered k d done e = let z : _≡_ {A = ℕ} 0 1 = cc in omega arith
-numbered k d (more j f b {rs} h p) e = by-head b j f k d (first rs) h (λ w. numbered k d p w) e
+verdict-given : (v : Verdict) → ProperVerdict v → Lists (verdictAsList v)
+unfolding ProperVerdict Lists verdictAsList
+verdict-given Admitted p = tt
+verdict-given (Refused k d) p = p
+
+reply-given : (v : Verdict) (n : ℕ) → ProperVerdict v → Lists (reply v n)
+unfolding ProperVerdict Lists reply
+reply-given Admitted n p = tt
+reply-given (Refused k d) n p = p
+
+list-given : {E : Type 0} (row : E → List ℕ) (rs : List Rule) → ListRules rs → (es : List E) (out : List ℕ) → Lists (listed rs row es out)
+unfolding listed
+list-given row rs p es out =
+    reply-given (first (rs ++ roomRule row es out ∷ [])) (length es) (proper-first _ (both rs (roomRule row es out ∷ []) (of-lists p) (one 7 _ _ (omega arith) (omega arith))))
+
+root-given : (v : Verdict) (n : ℕ) → ProperVerdict v → Lists (rootAsList (rootReply v n))
+unfolding ProperVerdict Lists rootAsList rootReply
+root-given Admitted n p = tt
+root-given (Refused k d) n p = p
+
+statement-given : (v : Verdict) (e : Enclosing) → ProperVerdict v → ((i : ℕ) → Admitted ≡ v → e ≡ Record i → i < noRecord) → Statements (statementReply v e)
+unfolding ProperVerdict Statements statementReply told
+statement-given Admitted Outside p h = tt
+statement-given Admitted (Record i) p h = h i refl refl
+statement-given (Refused k d) e p h = p
+
+hint-given : (v : Verdict) (x : Hint) → ProperVerdict v → ((i : ℕ) → Admitted ≡ v → x ≡ Opener i → i < noRecord) → Statements (hintAsStatement (hinted v x))
+unfolding ProperVerdict Statements hintAsStatement hinted
+hint-given Admitted NoOpener p h = tt
+hint-given Admitted (Opener i) p h = h i refl refl
+hint-given (Refused k d) x p h = p
+
+-- THE THEOREM
+pub apart : Apart
+apart =
+    record {
+      checks = λ t t′ n n′ e. verdict-apart _ _ (verdict-given _ (proper-verdict t n 0)) (verdict-given _ (proper-verdict t′ n′ 0)) e;
+      hints = λ t t′ m m′ n n′ e. hint-apart _ _ (of-hint t n m) (of-hint t′ n′ m′) e;
+      statements = λ t t′ n n′ o o′ e. statement-apart _ _ (of-statement t n o) (of-statement t′ n′ o′) e;
+      roots = λ t t′ n n′ o o′ e. root-apart _ _ (root-given _ (rootAt t o) (proper-verdict t n 0)) (root-given _ (rootAt t′ o′) (proper-verdict t′ n′ 0)) e;
+      lists = λ row row′ rs rs′ p p′ es es′ out out′ e. list-apart _ _ (list-given row rs p es out) (list-given row′ rs′ p′ es′ out′) e;
+    }
+  where
+    of-hint : (t : List ℕ) (n : ℕ) (m : List ℕ) → Statements (hintAsStatement (hintFor t n m))
+    of-hint t n m = hint-given _ _ (proper-verdict t n (length m)) (λ i a e. omega (arith, hint-within t n (length m) a m e))
+
+    of-statement : (t : List ℕ) (n o : ℕ) → Statements (statementFor t n o)
+    of-statement t n o = statement-given _ _ (proper-verdict t n 0) (λ i a e. omega (arith, statement-within t n 0 o a e))

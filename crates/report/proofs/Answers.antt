@@ -3,7 +3,7 @@
 --     list-given, ..        a list that is answered, and one that is not
 --     classes-fit, ..       classes and openers: no more than records
 -- Assumes nothing.
-use Prim.Native.Nat.{ℕ, zero, suc, _+_, _*_, _≤_}
+use Prim.Native.Nat.{ℕ, suc, _+_, _*_, _≤_}
 use mathlib.Core.Path.{_≡_, refl, sym, ap, _∙_}
 use mathlib.Core.Bool.{Bool, true, false, cond}
 use mathlib.Core.Option.{Option, none, some}
@@ -18,7 +18,7 @@ use Rattle.lent.specs.declared.verdict.Verdict.{Verdict}
 use Rattle.lent.specs.declared.verdict.Verdict.the-variants.{Admitted, Refused}
 use Rattle.lent.specs.declared.list.Listed.{Listed}
 use Rattle.lent.specs.declared.list.Listed.the-variants.{Entries, Refused as Unlisted}
-use Rattle.records.specs.Table.{count, kindAt, recordAt, records, run, from}
+use Rattle.records.specs.Table.{count, kindAt, recordAt, records, from}
 use Rattle.forest.specs.Forest.{Forest, nil, token, node, kids}
 use Rattle.forest.specs.Sense.{treeOf, inOrder, byDepth}
 use Rattle.lent.specs.Verdicts.{Rule, first}
@@ -27,6 +27,7 @@ use Rattle.lent.specs.Numbers.{numberBytes}
 use Rattle.lent.specs.Lists.{listBytes, roomRule, listVerdict, reply, buffer, listed, lent}
 use Rattle.lent.proofs.Verdicts.{then-admitted}
 use Rattle.lent.proofs.Writes.{length-wide}
+use Rattle.forest.proofs.Limits.{run-length}
 use Rattle.forest.proofs.Sense.{admitted-tidy, whole-tree}
 use Rattle.statement.specs.declared.statement.Enclosing.{Enclosing}
 use Rattle.statement.specs.declared.statement.Enclosing.the-variants.{Outside, Record}
@@ -38,9 +39,14 @@ use Rattle.scope.specs.Classes.{entryWith, entryOf, classes, classesOf}
 use Rattle.brackets.specs.Brackets.{isOpener, isCloser, fits, closed, stackStep, left, stackLeft, indexOf, openersLeft}
 use Rattle.tables.specs.Tables.{referenceBytes, referenceRow}
 use Rattle.scope.specs.Scope.{tableRefs}
-use Rattle.report.specs.Output.{letterT, printedList, answeredBy, answerText, refusalLine, referenceRoom, questionVerdict, unlessRefused, replied}
-use Rattle.report.specs.inner.Writing.{printedWords, entryCount, mostReferences}
-use Rattle.report.proofs.Writing.{printed-are}
+use Rattle.print.specs.Printed.{letterT, printedList, refusalLine}
+use Rattle.report.specs.Output.{answeredBy, answerText, referenceRoom, questionVerdict, unlessRefused, replied}
+use Rattle.report.specs.inner.Room.{entryCount, mostReferences, textRoom}
+use Rattle.lines.specs.Lines.{mostLines}
+use Rattle.print.specs.inner.Writing.{printedWords, lineRoom}
+use Rattle.print.proofs.Writing.{printed-are}
+use Rattle.lent.specs.Fit32.{AllFit32}
+use Rattle.scope.proofs.Fitting.{references-fit}
 
 -- ---- the statement
 
@@ -118,26 +124,26 @@ module _ {E : Type 0} (row : E → List ℕ) (w : ℕ) (wide : (e : E) → lengt
 
   -- where it is answered, it is read back from its buffer
   pub list-read : (rs : List Rule) (es : List E) (out : List ℕ) {n : ℕ} {list : List ℕ} → Entries n ≡ listed rs row es out → list ≡ lent rs row es out
-      → (n ≡ length es) × (n * (numberBytes * w) ≤ length list) × (n * (numberBytes * w) ≤ length out)
+      → AllFit32 row es → (n ≡ length es) × (n * (numberBytes * w) ≤ length list) × (n * (numberBytes * w) ≤ length out)
       × ((letter k : ℕ) → printedWords letter k w list 0 n ≡ printedList letter k (map row es))
-  list-read rs es out {n} {list} e q =
+  list-read rs es out {n} {list} e q fit =
       let g = list-given row rs es out e in
       let b : list ≡ listBytes row es ++ drop (length (listBytes row es)) out = q ∙ list-bytes row rs es out (g .0) in
       let m : n * (numberBytes * w) ≡ length (listBytes row es) = rw (g .1) (sym (list-size es)) in (
         g .1,
         omega (arith, m, ap length b, length-append (listBytes row es) (drop (length (listBytes row es)) out)),
         omega (arith, m, list-room row rs es out (g .0)),
-        λ letter k. rw (b, g .1) (printed-are letter k w row wide es (drop (length (listBytes row es)) out)),
+        λ letter k. rw (b, g .1) (printed-are letter k w row wide es (drop (length (listBytes row es)) out) fit),
       )
 
   -- where its table is admitted and it has room, it is not refused
-  pub list-fits : (rs : List Rule) (es : List E) (out : List ℕ) (m : ℕ) (r : Listed) {list : List ℕ} → Admitted ≡ first rs → length es ≤ m
+  pub list-fits : (rs : List Rule) (es : List E) (out : List ℕ) (m : ℕ) (r : Listed) {list : List ℕ} → Admitted ≡ first rs → AllFit32 row es → length es ≤ m
       → m * (numberBytes * w) ≤ length out → r ≡ listed rs row es out → list ≡ lent rs row es out
       → (entryCount r ≤ m) × (entryCount r * (numberBytes * w) ≤ length list)
       × ((letter k : ℕ) → printedWords letter k w list 0 (entryCount r) ≡ printedList letter k (map row es))
   unfolding entryCount
-  list-fits rs es out m (Entries n) a f h e q = let g = list-read rs es out e q in (omega (arith, g .0), g .1, g .3)
-  list-fits rs es out m (Unlisted k d) a f h e q =
+  list-fits rs es out m (Entries n) a fit f h e q = let g = list-read rs es out e q fit in (omega (arith, g .0), g .1, g .3)
+  list-fits rs es out m (Unlisted k d) a fit f h e q =
       absurd (list-not-denied row rs es out a (omega (arith, list-size es, mul-le-mul-right (numberBytes * w) f)) e)
 
 -- ---- the verdict on a frame's table
@@ -160,19 +166,23 @@ module _ (src t out : List ℕ) (z : length out ≡ referenceRoom) where
     question-read {n} {list} q b =
         let a : Admitted ≡ listVerdict (rootRules t (length src) 0) referenceRow (tableRefs src t 0) out
         = list-given referenceRow (rootRules t (length src) 0) (tableRefs src t 0) out (sym q ∙ w) .0 in
-        let g = list-read referenceRow 13 (λ e. refl) (rootRules t (length src) 0) (tableRefs src t 0) out (sym q ∙ w) b in (
-          admitted-first (rules t (length src) 0) _ (admitted-first (rootRules t (length src) 0) _ a),
+        let v : Admitted ≡ first (rules t (length src) 0) = admitted-first (rules t (length src) 0) _ (admitted-first (rootRules t (length src) 0) _ a) in
+        let fit = references-fit src t (length src) 0 0 v (admitted-tidy t (length src) 0 (sym v) .some) in
+        let g = list-read referenceRow 13 (λ e. refl) (rootRules t (length src) 0) (tableRefs src t 0) out (sym q ∙ w) b fit in (
+          v,
           g .1,
           omega (arith, g .2, z),
           λ o. rw (← (a ∙ same-verdict), g .3 letterT 1),
         )
 
--- ---- how many entries
+-- ---- the room of an answer
 
-run-length : (t : List ℕ) (base i n : ℕ) → length (run t base i n) ≡ n
-unfolding run
-run-length t base i zero = refl
-run-length t base i (suc n) = ap suc (run-length t base (i + 1) n)
+-- an answer has room: a line for the context and the statement, one for each of n references, and one for each token and opener
+pub answer-room : (n : ℕ) {r₁ r₂ r₃ r₄ r₅ : ℕ} → n ≤ mostReferences → r₁ ≤ 0 + lineRoom → r₂ ≤ r₁ + lineRoom → r₃ ≤ r₂ + lineRoom * n
+    → r₄ ≤ r₃ + lineRoom * mostLines → r₅ ≤ r₄ + lineRoom * mostLines → r₅ + 2 ≤ textRoom
+answer-room n h a b c d e = omega arith
+
+-- ---- how many entries
 
 linked-length : (t : List ℕ) (rs : List Rec) → length (byDepth t rs) ≡ length rs
 unfolding byDepth

@@ -1,109 +1,24 @@
 -- Document 01, Worked by hand: what glance prints.
 -- Definitions only.
-use Prim.Native.Nat.{ℕ, zero, suc, _+_, _/_, _%_}
-use mathlib.Core.Bool.{cond, _&&_}
+use Prim.Native.Nat.{ℕ}
 use mathlib.Core.List.{List, [], _∷_, _++_, map}
-use lib.ListN.{length, take, drop}
-use lib.Dec.{ltb, eqb}
+use lib.ListN.{length}
+use lib.Dec.{ltb}
 use Rattle.lent.specs.declared.verdict.Verdict.{Verdict}
 use Rattle.lent.specs.declared.verdict.Verdict.the-variants.{Admitted, Refused}
 use Rattle.lent.specs.Verdicts.{Rule, rule, first}
 use Rattle.table.specs.Rules.{rootRules}
 use Rattle.lent.specs.Lists.{listBytes}
-use Rattle.lent.specs.Text.{bytesOf}
-use Rattle.statement.specs.declared.statement.Enclosing.{Enclosing}
-use Rattle.statement.specs.declared.statement.Enclosing.the-variants.{Outside, Record}
 use Rattle.tables.specs.declared.pending.TableRef.{TableRef}
 use Rattle.scope.specs.Classes.{classRow as classRow, classesOf}
 use Rattle.brackets.specs.Brackets.{openerRow as openerRow, openersLeft}
 use Rattle.tables.specs.Tables.{referenceRow}
 use Rattle.scope.specs.Scope.{tableRefs}
 use Rattle.statement.specs.Statement.{enclosingAt}
-use Rattle.contexts.specs.declared.context.CursorContext.{CursorContext}
 use Rattle.cursor.specs.CursorContext.{contextAt}
-use Rattle.contexts.specs.Context.{coded}
-use Rattle.lines.specs.Lines.{lf}
-use Rattle.lent.specs.Numbers.{wordLimit}
-use Rattle.records.specs.Ranges.{absentNumber}
+use Rattle.print.specs.Printed.{letterT, letterK, letterO, printedList, contextLine, statementLine, endLine, refusalLine}
 
--- ---- the bytes that stand for themselves: a space, and the letters that begin the lines
-
-abbrev pub space : ℕ
-space = 32
-
-abbrev pub letterC : ℕ
-letterC = 67
-
-abbrev pub letterS : ℕ
-letterS = 83
-
-abbrev pub letterT : ℕ
-letterT = 84
-
-abbrev pub letterK : ℕ
-letterK = 75
-
-abbrev pub letterO : ℕ
-letterO = 79
-
-abbrev pub letterR : ℕ
-letterR = 82
-
--- ---- numbers and ranges
-
--- the digits of v in base ten, the most significant first: as many as it has, n at most
-unfoldable pub digits : ℕ → ℕ → List ℕ
-digits zero v = []
-digits (suc n) v =
-    let more : List ℕ = digits n (v / 10) ++ (48 + v % 10) ∷ [] in
-    cond (ltb v 10) ((48 + v) ∷ []) more
-
--- numbers are decimal: v has at most v + 1 digits
-unfoldable pub decimal : ℕ → List ℕ
-decimal v = digits (suc v) v
-
--- a number after a space
-abbrev pub field : ℕ → List ℕ
-field v = space ∷ decimal v
-
--- an absent range is 4294967295 twice, and is printed as `- -`
-unfoldable pub range : ℕ → ℕ → List ℕ
-range s e = cond (eqb s absentNumber && eqb e absentNumber) (bytesOf " - -") (field s ++ field e)
-
--- some numbers; some ranges
-unfoldable pub fields : List ℕ → List ℕ
-fields [] = []
-fields (v ∷ vs) = field v ++ fields vs
-
-unfoldable pub ranges : List ℕ → List ℕ
-ranges [] = []
-ranges (s ∷ []) = []
-ranges (s ∷ e ∷ vs) = range s e ++ ranges vs
-
--- what the 32 bits of a number hold
-abbrev pub held : ℕ → ℕ
-held v = v % wordLimit
-
--- ---- the lines
-
--- a line: its letter, its first n numbers, and ranges
-unfoldable pub printed : ℕ → ℕ → List ℕ → List ℕ
-printed letter n vs = letter ∷ fields (take n vs) ++ ranges (drop n vs) ++ lf ∷ []
-
--- a list, a line for each entry
-unfoldable pub printedList : ℕ → ℕ → List (List ℕ) → List ℕ
-printedList letter n [] = []
-printedList letter n (r ∷ rs) = printed letter n (map held r) ++ printedList letter n rs
-
--- C: context, name range, argument index
-unfoldable pub contextLine : CursorContext → List ℕ
-contextLine c =
-    letterC ∷ field (held (coded c .number)) ++ range (held (coded c .name .start)) (held (coded c .name .end)) ++ field (held (coded c .index)) ++ lf ∷ []
-
--- S: statement record or `-`
-unfoldable pub statementLine : Enclosing → List ℕ
-statementLine Outside = bytesOf "S -" ++ lf ∷ []
-statementLine (Record n) = letterS ∷ field (held n) ++ lf ∷ []
+-- ---- the lists
 
 -- T: references of record 0, a line each, fields as in the entry
 abbrev pub referenceLines : List ℕ → List ℕ → List ℕ
@@ -116,14 +31,6 @@ classLines src t = printedList letterK 3 (map classRow (classesOf src t))
 -- O: the record of an opener left, a line each
 abbrev pub openerLines : List ℕ → List ℕ
 openerLines t = printedList letterO 1 (map openerRow (openersLeft t))
-
--- E ends it
-abbrev pub endLine : List ℕ
-endLine = bytesOf "E" ++ lf ∷ []
-
--- R: a refusal's number and detail
-abbrev pub refusalLine : ℕ → ℕ → List ℕ
-refusalLine k d = letterR ∷ field k ++ field d ++ lf ∷ []
 
 -- ---- the whole text
 

@@ -34,7 +34,8 @@ use Rattle.cursor.specs.CursorContext.{startsAfter, lastRule, givenOr, contextA
 use Rattle.contexts.specs.Context.{rangeOf, referenceNumber, coded}
 use Rattle.lines.specs.Lines.{lf, begun, lines, isDigit, value, allDigits, isHex, isSource, isNumbers, faulty, recordRules}
 use Rattle.lines.specs.Frame.{spelt, pairs, firstBytes, fieldsOf}
-use Rattle.report.specs.Output.{digits, decimal, range, fields, ranges, printed, printedList, contextLine, statementLine, answerText, questionVerdict, unlessRefused}
+use Rattle.print.specs.Printed.{digits, decimal, range, fields, ranges, printed, printedList, contextLine, statementLine}
+use Rattle.report.specs.Output.{answerText, questionVerdict, unlessRefused}
 use Rattle.frame.specs.Glance.{repliedTo, glanced}
 
 -- ---- a case: an input, and what is printed for it

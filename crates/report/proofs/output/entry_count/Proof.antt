@@ -1,4 +1,4 @@
-use Rattle.report.specs.inner.Writing.{entryCount}
+use Rattle.report.specs.inner.Room.{entryCount}
 use borrow.Author.Needs.{needs}
 use Rattle.report.proofs.output.entry_count.Statement.{statement}
 use Rattle.report.proofs.output.entry_count.Tie as tie

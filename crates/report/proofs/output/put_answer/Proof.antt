@@ -1,5 +1,6 @@
 use Rattle.lent.specs.Text.{bytesOf}
-use Rattle.report.proofs.Writing.{put-then, answer-room}
+use Rattle.print.proofs.Writing.{put-then}
+use Rattle.report.proofs.Answers.{answer-room}
 use native.Mathlib.Omega.{arith}
 use borrow.Author.Needs.{needs}
 use Rattle.report.proofs.output.put_answer.Statement.{statement}

@@ -1,5 +1,6 @@
 use Rattle.scope.specs.Classes.{classRow, classesOf}
 use Rattle.table.specs.Rules.{rules, verdict}
+use Rattle.scope.proofs.Fitting.{classes-fit}
 use Rattle.report.proofs.Answers.{list-fits, classes-few}
 use lib.ListN.{length}
 use mathlib.Core.Path.{refl}
@@ -21,7 +22,7 @@ put-classes-spec =
     let a = c .before .before .before .before .before .before .before .before .before in
     let m = classes-few (a .args .table .now) (length (a .args .source .now)) (a .pre .0) (a .args .source .now) in
     let w = c .before .before .before .before .token-classes .ensures in
-    let f = list-fits classRow 3 (λ e. refl) (rules (a .args .table .now) (length (a .args .source .now)) 0) (classesOf (a .args .source .now) (a .args .table .now)) _ 1024 _ (a .pre .0) (omega (arith, m)) (omega arith) (w .0) (w .1) in
+    let f = list-fits classRow 3 (λ e. refl) (rules (a .args .table .now) (length (a .args .source .now)) 0) (classesOf (a .args .source .now) (a .args .table .now)) _ 1024 _ (a .pre .0) (classes-fit (a .args .source .now) (a .args .table .now) (length (a .args .source .now)) 0 (a .pre .0)) (omega (arith, m)) (omega arith) (w .0) (w .1) in
     let k = c .before .before .entry-count .ensures in
     (omega arith, rw k (f .1), omega (arith, k, f .0)))  -- put-list-requires
     (λ c. search needs)  -- same-length
@@ -29,6 +30,6 @@ put-classes-spec =
     let a = c .before .before .before .before .before .before .before .before .before .before .before .before in
     let m = classes-few (a .args .table .now) (length (a .args .source .now)) (a .pre .0) (a .args .source .now) in
     let w = c .before .before .before .before .before .before .before .token-classes .ensures in
-    let f = list-fits classRow 3 (λ e. refl) (rules (a .args .table .now) (length (a .args .source .now)) 0) (classesOf (a .args .source .now) (a .args .table .now)) _ 1024 _ (a .pre .0) (omega (arith, m)) (omega arith) (w .0) (w .1) in
+    let f = list-fits classRow 3 (λ e. refl) (rules (a .args .table .now) (length (a .args .source .now)) 0) (classesOf (a .args .source .now) (a .args .table .now)) _ 1024 _ (a .pre .0) (classes-fit (a .args .source .now) (a .args .table .now) (length (a .args .source .now)) 0 (a .pre .0)) (omega (arith, m)) (omega arith) (w .0) (w .1) in
     let k = c .before .before .before .before .before .entry-count .ensures in
     (rw (← f .2 75 3, ← k) (c .before .before .put-list .ensures .0), omega (arith, k, f .0))))  -- returns

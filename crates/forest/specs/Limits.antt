@@ -1,0 +1,23 @@
+-- Document 01's limits, of the records of a tree: so the number of a record, and the range of a token, fit 32 bits wherever an entry has them.
+-- Of a node's span they say nothing: it may hold any numbers.
+-- Definitions only; that an admitted table's tree keeps them is `admitted-limited` in proofs/Limits.antt.
+use Prim.Native.Nat.{_≤_, _<_}
+use mathlib.Core.List.{List, [], _∷_}
+use Rattle.records.specs.declared.record.Rec.{Rec}
+use Rattle.conditions.specs.Conditions.{mostRecords, mostSource}
+use Rattle.forest.specs.Forest.{Forest, nil, token, node}
+
+-- a range within the longest source
+abbrev pub WithinSource : Rec → Type 0
+WithinSource r = (r .start ≤ mostSource) × (r .end ≤ mostSource)
+
+-- each of some tokens has such a range
+unfoldable pub AllWithinSource : List Rec → Type 0
+AllWithinSource [] = Unit
+AllWithinSource (r ∷ rs) = WithinSource r × AllWithinSource rs
+
+-- every record's number is below 4,096, and every token ends within 65,536 bytes
+unfoldable pub Limited : Forest → Type 0
+Limited nil = Unit
+Limited (token r rest) = ((r .index < mostRecords) × WithinSource r) × Limited rest
+Limited (node r below rest) = (r .index < mostRecords) × Limited below × Limited rest
