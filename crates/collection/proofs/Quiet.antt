@@ -6,7 +6,7 @@
 use Prim.Native.Nat.{ℕ, zero, suc, _+_, _≤_, _<_}
 use mathlib.Core.Path.{_≡_, refl, sym, ap, _∙_}
 use mathlib.Core.Bool.{Bool, true, false, cond, not, _&&_, _||_}
-use mathlib.Core.List.{List, [], _∷_, _++_}
+use mathlib.Core.List.{List, [], _∷_}
 use mathlib.Core.Logic.{⊎-elim}
 use native.Mathlib.Omega.{arith}
 use borrow.Author.Tests.{eqb-true, eq-eqb, ne-eqb, le-leb}
@@ -14,7 +14,7 @@ use lib.Dec.{eqb, leb}
 use Rattle.lent.proofs.Cases.{lt-or-le}
 use Rattle.records.proofs.Fields.{kind-of}
 use Rattle.records.specs.declared.record.Rec.{Rec}
-use Rattle.records.specs.Kinds.{lastNode, withClause, selectClause, fromClause, joinClause, subqueryExpression}
+use Rattle.records.specs.Kinds.{withClause, selectClause, fromClause, joinClause, subqueryExpression}
 use Rattle.records.specs.Table.{count, kindAt, recordAt, run, from, records, part}
 use Rattle.lent.proofs.Writes.{written-none}
 use Rattle.forest.specs.Forest.{Forest, token, node, level, kids, stretchEnd}

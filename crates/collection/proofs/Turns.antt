@@ -1,15 +1,15 @@
 -- What a turn of the collection writes, by the kind of the record that it stands at.
 -- Assumes nothing.
-use Prim.Native.Nat.{ℕ, _+_, _≤_, _<_}
+use Prim.Native.Nat.{ℕ, _+_, _<_}
 use mathlib.Core.Path.{_≡_, refl, sym, _∙_}
-use mathlib.Core.Bool.{Bool, true, false, _||_, not, _&&_}
+use mathlib.Core.Bool.{true, false, _||_}
 use mathlib.Core.List.{List, [], _++_, map, append-nil}
 use native.Mathlib.Omega.{arith}
-use borrow.Author.Tests.{eqb-true, eqb-false, leb-true, eq-eqb, ne-eqb, le-leb}
+use borrow.Author.Tests.{eq-eqb, ne-eqb}
 use lib.Dec.{eqb}
-use Rattle.records.specs.Kinds.{lastNode, isNode, withClause, selectClause, fromClause, joinClause, subqueryExpression}
+use Rattle.records.specs.Kinds.{withClause, selectClause, fromClause, joinClause, subqueryExpression}
 use Rattle.records.specs.Table.{count, kindAt, recordAt, records, part}
-use Rattle.forest.specs.Forest.{Forest, nil, token, node, kids, stretchEnd}
+use Rattle.forest.specs.Forest.{Forest, nil, node, kids, stretchEnd}
 use Rattle.forest.proofs.Laws.{head-part}
 use Rattle.tables.specs.declared.pending.Pending.the-variants.{Nothing}
 use Rattle.tables.specs.declared.tables.Reads.the-variants.{Aliases, References}
@@ -40,10 +40,6 @@ module _ {E : Type 0} (own : ℕ → Forest → List E) where
   collected-none = refl
 
   module _ (s : List ℕ) (base i : ℕ) (f : Forest) where
-    pub collected-token : collected own (token (recordAt s base i) f) ≡ collected own f
-    unfolding collected
-    collected-token = refl
-
     pub collected-sub : (below : Forest) → kindAt s i ≡ subqueryExpression → collected own (node (recordAt s base i) below f) ≡ collected own f
     unfolding collected
     collected-sub below e = rw (kind-yes s base i e)
@@ -52,23 +48,6 @@ module _ {E : Type 0} (own : ℕ → Forest → List E) where
         → collected own (node (recordAt s base i) (kids (records (base + i) p)) f) ≡ collectionOf own (base + i) p ++ collected own f
     unfolding collected collection
     collected-node p h q n = rw (kind-no s base i subqueryExpression n, head-part s base i h q)
-
--- ---- what the test for a visit says
-
-pub visit-yes : (k : ℕ) {x : Bool} → x ≡ (isNode k && not (eqb k subqueryExpression)) → x ≡ true → (k ≤ lastNode) × (k ≡ subqueryExpression → ⊥)
-visit-yes k e y = go (isNode k) (eqb k subqueryExpression) refl refl (sym e ∙ y)
-  where
-    go : (t u : Bool) → isNode k ≡ t → eqb k subqueryExpression ≡ u → (t && not u) ≡ true → (k ≤ lastNode) × (k ≡ subqueryExpression → ⊥)
-    go true true p q h = absurd (let z : _≡_ {A = ℕ} 0 1 = cc in omega arith)
-    go true false p q h = (leb-true k lastNode p, eqb-false k subqueryExpression q)
-    go false u p q h = absurd (let z : _≡_ {A = ℕ} 0 1 = cc in omega arith)
-
-pub visit-no : (k : ℕ) {x : Bool} → x ≡ (isNode k && not (eqb k subqueryExpression)) → x ≡ false → k ≤ lastNode → k ≡ subqueryExpression
-visit-no k e y l = go (eqb k subqueryExpression) refl (rw (le-leb k lastNode l) at (sym e ∙ y))
-  where
-    go : (u : Bool) → eqb k subqueryExpression ≡ u → not u ≡ false → k ≡ subqueryExpression
-    go true q h = eqb-true k subqueryExpression q
-    go false q h = absurd (let z : _≡_ {A = ℕ} 0 1 = cc in omega arith)
 
 -- ---- a node's own part of each list
 

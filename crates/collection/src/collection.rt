@@ -7,18 +7,12 @@ use names::bindings::collect_ctes;
 use records::kinds::FROM_CLAUSE;
 use records::kinds::JOIN_CLAUSE;
 use records::kinds::SELECT_CLAUSE;
-use records::kinds::SUBQUERY_EXPRESSION;
 use records::kinds::WITH_CLAUSE;
-use records::kinds::is_node;
 use records::record::count_of;
 use records::record::kind_at;
 use tables::tables::Reads;
 use tables::tables::collect_table_refs;
-ghost use mathlib.Core.Path.{_≡_};
-ghost use mathlib.Core.Bool.{_&&_, not};
 ghost use Prim.Native.Nat.{_+_, _*_, _≤_, _<_};
-ghost use lib.Dec.{eqb};
-ghost use Rattle.records.specs.Kinds.{isNode, subqueryExpression};
 ghost use Rattle.records.specs.Table.{count, kindAt, records};
 ghost use Rattle.forest.specs.Forest.{kids};
 ghost use Rattle.conditions.specs.Conditions.{mostRecords};
@@ -83,13 +77,6 @@ fn own_part(asked: Asked, s: &[u8], base: usize, source: &[u8], out: &mut [u8], 
         Asked::TableAliases => own_tables(Reads::Aliases, s, base, source, out, at),
         Asked::TableRefs => own_tables(Reads::References, s, base, source, out, at),
     }
-}
-
-// Is a child of kind k a node that collection visits?
-pub fn visits(k: usize) -> bool
-    ensures { λ r. ⌜ r ≡ (isNode k && not (eqb k subqueryExpression)) ⌝ }
-{
-    is_node(k) & (k != SUBQUERY_EXPRESSION)
 }
 
 // The collection of the node at the head of the stretch s, whose number is base; a child in which there is nothing to collect is passed over. Writes the list that is asked for into out from byte `at`

@@ -1,19 +1,17 @@
 -- Everything at a cursor in one call:
 --     at-once    the call gives what the six single questions give, or is refused as they are
 -- Assumes nothing.
-use Prim.Native.Nat.{ℕ, _+_, _*_, _/_, _≤_, _<_}
+use Prim.Native.Nat.{ℕ, _+_, _≤_}
 use mathlib.Core.Path.{_≡_, refl, sym, ap, _∙_}
 use mathlib.Core.Bool.{Bool, true, false, cond}
-use mathlib.Core.List.{List, [], _∷_, _++_, append-assoc, append-nil}
+use mathlib.Core.List.{List, [], _∷_, _++_}
 use native.Mathlib.Omega.{arith}
 use borrow.Author.Tests.{le-ltb, ltb-true, ltb-false}
 use lib.Dec.{ltb}
 use lib.ListN.{length, take, drop}
-use lib.Seq.{take-append-seam}
 use Rattle.lent.specs.declared.verdict.Verdict.{Verdict}
 use Rattle.lent.specs.declared.verdict.Verdict.the-variants.{Admitted, Refused}
 use Rattle.lent.specs.Verdicts.{Rule, first}
-use Rattle.lent.specs.Numbers.{le4}
 use Rattle.lent.proofs.Verdicts.{then-refused, then-admitted}
 use Rattle.lent.proofs.Writes.{list-refused}
 use Rattle.lent.specs.Lists.{rowBytes, listBytes, roomRule, listVerdict, reply, buffer, listed, lent}
@@ -26,16 +24,16 @@ use Rattle.contexts.specs.Context.{contextRow, contextBytes}
 use Rattle.cursor.specs.CursorContext.{contextAt}
 use Rattle.cursor_root.specs.Root.{rootAt}
 use Rattle.offers.specs.WithNames.{withNamesAt}
-use Rattle.replies.specs.Reply.{half, packed, answered, listReply}
+use Rattle.replies.specs.Reply.{packed, answered, listReply}
 use Rattle.everything.specs.Everything.{Buffers, buffers, everythingRow, roomRules, everythingVerdict, everythingReply, Leaves}
 use Rattle.everything.specs.inner.Counts.{everythingBytes}
 use Rattle.everything.proofs.EverythingLaws.{entry-size}
 use Rattle.demands.specs.declared.Question.{Question}
-use Rattle.demands.specs.declared.Question.the-variants.{CursorContext, CursorRoot, WithNamesAt, TableAliasesAt, ColumnAliasesAt, TableRefsAt}
+use Rattle.demands.specs.declared.Question.the-variants.{CursorRoot}
 use Rattle.demands.specs.Questions.{Asked, asked, matter, plain, number, list}
-use Rattle.demands.specs.Demand1.{Holds, of-table, Answer, Refusal}
+use Rattle.demands.specs.Demand1.{of-table, Answer, Refusal}
 use Rattle.demands.specs.AtOnce.{Single, Singles, answerIn, Together, FirstRefused, every, of-entry, of-names, of-aliases, of-columns, of-refs, AtOnce}
-use Rattle.demands.proofs.Stages.{after, first-after, numbers}
+use Rattle.demands.proofs.Stages.{after, numbers}
 use Rattle.demands.proofs.Replies.{packing, demanded, one-reply}
 use Rattle.demands.proofs.Promises.{number-told, plain-told}
 

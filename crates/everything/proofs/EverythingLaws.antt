@@ -16,10 +16,10 @@ use Rattle.lent.specs.declared.verdict.Verdict.the-variants.{Admitted, Refused}
 use Rattle.lent.specs.declared.list.Listed.{Listed}
 use Rattle.lent.specs.declared.list.Listed.the-variants.{Entries, Refused as Denied}
 use Rattle.lent.specs.Verdicts.{Rule, first}
-use Rattle.lent.specs.Lists.{rowBytes, listBytes, roomRule, listVerdict, reply, buffer, listed, lent, put}
+use Rattle.lent.specs.Lists.{rowBytes, listBytes, roomRule, reply, buffer, listed, lent, put}
 use Rattle.lent.proofs.Verdicts.{then-refused, then-admitted, unbroken}
 use Rattle.lent.proofs.Writes.{length-wide, written-one, written-whole}
-use Rattle.table.specs.Rules.{rules, verdict}
+use Rattle.table.specs.Rules.{rules}
 use Rattle.names.specs.Bindings.{bindingRow, bindingBytes}
 use Rattle.tables.specs.Tables.{referenceRow, referenceBytes}
 use Rattle.collection.specs.declared.collection.Asked.the-variants.{TableAliases, ColumnAliases, TableRefs}

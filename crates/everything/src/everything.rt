@@ -26,7 +26,6 @@ ghost use Rattle.table.specs.Rules.{verdict};
 ghost use Rattle.forest.specs.inner.Climbing.{Climbs};
 ghost use Rattle.names.specs.Bindings.{bindingRow};
 ghost use Rattle.tables.specs.Tables.{referenceRow};
-ghost use Rattle.tables.specs.inner.Rows.{asRow};
 ghost use Rattle.scope.specs.Scope.{tableAliases, columnAliases, tableRefs};
 ghost use Rattle.scope.specs.inner.Rows.{rowsAt};
 ghost use Rattle.cursor.specs.CursorContext.{contextAt};

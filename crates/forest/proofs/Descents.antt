@@ -1,7 +1,7 @@
 -- A descent in two loops: the inner one goes over the children of a stretch's first record to the first that is taken, and the outer
 -- one goes on with that child's stretch. It gathers a G on its way, and answers `done g f` at the end, where f is the children of the
 -- last node: so the answer may read the last stretch too.
---     descent-none, descent-start     a table with no record; before the first turn, with record 0 gathered
+--     descent-start                   before the first turn, with record 0 gathered
 --     descent-walk                    the inner loop begins
 --     descent-on                      after a child that is not taken
 --     descent-into                    at the child that is taken, whose stretch is p: the outer loop's next turn
@@ -19,9 +19,9 @@ use lib.ListN.{drop}
 use Rattle.records.specs.declared.record.Rec.{Rec}
 use Rattle.records.specs.Kinds.{isNode, lastNode}
 use Rattle.records.specs.Table.{recordBytes, count, kindAt, recordAt, records, part}
-use Rattle.forest.specs.Forest.{Forest, nil, node, kids, stretchEnd, Child}
+use Rattle.forest.specs.Forest.{Forest, node, kids, stretchEnd, Child}
 use Rattle.forest.specs.Descent.{path, innermost, pathOf, innermostOf, along}
-use Rattle.forest.proofs.Laws.{node-or-token, from-end, from-cons, kids-tail}
+use Rattle.forest.proofs.Laws.{node-or-token, from-cons, kids-tail}
 use Rattle.forest.proofs.Walks.{Walk, walk-from, walk-end, walk-token, walk-over, walk-into}
 
 -- what a descent does: is a node taken, what a node adds to what is gathered, and the answer
@@ -59,10 +59,6 @@ pub record Level {G A : Type 0} (D : Descent G A) (s : List ℕ) (base i : ℕ) 
   pub walk : Walk s base i (onward D g (kids (records base s))) «all»
 
 module _ {G A : Type 0} (D : Descent G A) (t : List ℕ) (g : G) where
-  pub descent-none : count t ≡ 0 → D .done g nil ≡ answer D g (records 0 t)
-  unfolding pathOf innermostOf innermost along kids
-  descent-none h = rw (from-end t 0 0 (omega arith))
-
   pub descent-start : {g′ : G} → 0 < count t → g′ ≡ D .step g (recordAt t 0 0) → Down D t 0 g′ (answer D g (records 0 t))
   unfolding onward pathOf innermostOf along
   descent-start h e = record { left = rw (e, from-cons t 0 0 h) }

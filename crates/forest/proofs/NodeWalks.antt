@@ -9,10 +9,10 @@ use native.Mathlib.Omega.{arith}
 use Rattle.records.specs.declared.record.Rec.{Rec}
 use Rattle.records.specs.Kinds.{lastNode}
 use Rattle.records.specs.Table.{count, kindAt, depthAt, recordAt, records, part}
-use Rattle.forest.specs.Forest.{Forest, nil, token, node, kids, stretchEnd, children}
+use Rattle.forest.specs.Forest.{Forest, token, node, kids, stretchEnd, children}
 use Rattle.forest.specs.inner.Nodes.{PastTokens, none-passed, token-passed, NodeChild}
-use Rattle.forest.proofs.Laws.{kids-first, siblings-end, siblings-stop, siblings-skip, siblings-token}
-use Rattle.forest.proofs.Walks.{Walk, walk-end, walk-into}
+use Rattle.forest.proofs.Laws.{kids-first, siblings-end, siblings-stop, siblings-skip, siblings-token, siblings-after}
+use Rattle.forest.proofs.Walks.{Walk, walk-into}
 
 -- one token more is passed
 one-more : (r : Rec) {f : Forest} (g : Forest) → PastTokens f (token r g) → PastTokens f g
@@ -90,3 +90,11 @@ module _ {A : Type 0} (rest : Forest → A) (pass : (r : Rec) (f : Forest) → r
       → ((f : Forest) → before (node (recordAt s base i) (kids (records (base + i) p)) f) ≡ rest f) → NodeWalk s base r rest «all»
   node-on {s} {base} {i} w h {p} {j} q e c turn =
       node-at s base j c (rw e (sym (turn (children s base (stretchEnd s i))) ∙ walk-into (w .walk) h (w .node h) q))
+
+  -- after a node of whose stretch nothing is wanted: the search goes on right behind its record
+  pub node-over : {s : List ℕ} {base i : ℕ} {before : Forest → A} {«all» : A} → NodeWalk s base i before «all» → i < count s → {r : ℕ} → NodeChild s (i + 1) r
+      → ((b f : Forest) → before (node (recordAt s base i) b f) ≡ rest f) → NodeWalk s base r rest «all»
+  unfolding children
+  node-over {s} {base} {i} w h c turn =
+      node-at s base (i + 1) c
+      (rw (← siblings-after s base (depthAt s 0 + 1) i h (w .walk .child h)) (sym (turn _ (children s base (stretchEnd s i))) ∙ walk-into (w .walk) h (w .node h) refl))

@@ -3,7 +3,7 @@
 -- and a turn's law asks how: what it was at a token or a node, with f after it, is what it now is at f.
 --     walk-none, walk-start     a stretch with no record; before the first turn
 --     walk-end                  after the last child
---     walk-token, walk-node     after a token; after a node, whose stretch is p
+--     walk-token                after a token
 --     walk-next                 after a record of whose stretch nothing is wanted, whether it is a token or a node
 --     walk-here                 at a token, where the answer comes from it
 --     walk-over                 after a node of whose stretch nothing is wanted: the search goes on right behind its record
@@ -53,10 +53,6 @@ module _ {A : Type 0} {s : List ℕ} {base i : ℕ} {rest : Forest → A} {«all
         → rest (node (recordAt s base i) (kids (records (base + i) p)) (children s base (stretchEnd s i))) ≡ «all»
     unfolding children
     walk-into g q = rw q (rw (siblings-node s base (depthAt s 0 + 1) i h _ refl (w .child h) g) at (w .left))
-
-    pub walk-node : {rest′ : Forest → A} {p : List ℕ} {j r : ℕ} → kindAt s i ≤ lastNode → p ≡ part s i (stretchEnd s i) → j ≡ stretchEnd s i → Child s j r
-        → ((f : Forest) → rest (node (recordAt s base i) (kids (records (base + i) p)) f) ≡ rest′ f) → Walk s base r rest′ «all»
-    walk-node g q j c e = record { child = c .depth; left = rw (← c .same base, j) (sym (e _) ∙ walk-into g q) }
 
     pub walk-over : {rest′ : Forest → A} {r : ℕ} → kindAt s i ≤ lastNode → Child s (i + 1) r
         → ((b f : Forest) → rest (node (recordAt s base i) b f) ≡ rest′ f) → Walk s base r rest′ «all»

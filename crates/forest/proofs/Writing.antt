@@ -1,7 +1,7 @@
 -- A walk over a forest that writes entries. Nothing here knows what is written.
 --     writing                       a walk's `rest`: what the buffer and the next place will be
 --     writing-turn, writing-last    some of it is written; the last of it is
---     writing-step, writing-end     the same where what is left to write keeps its form
+--     writing-end                   the last of it is where what is left to write keeps its form
 -- Assumes nothing.
 use mathlib.Core.Path.{_≡_, ap, _∙_}
 use mathlib.Core.List.{List, [], _++_}
@@ -29,10 +29,6 @@ module _ {E : Type 0} (row : E → List ℕ) where
   unfolding writing
   writing-last ans ans′ g w e =
       record { bytes = w .bytes ∙ ap (λ (x : List ℕ × ℕ). x .0) e; next = w .next ∙ ap (λ (x : List ℕ × ℕ). x .1) e }
-
-  pub writing-step : (ans : Forest → List E) (g f : Forest) {xs : List E} {out out′ : List ℕ} {at at′ : ℕ} → ans g ≡ xs ++ ans f
-      → Written row xs out at out′ at′ → writing ans out at g ≡ writing ans out′ at′ f
-  writing-step ans g f e w = writing-turn ans ans g f e w
 
   pub writing-end : (ans : Forest → List E) (g : Forest) {out out′ : List ℕ} {at at′ : ℕ} → ans nil ≡ []
       → writing ans out′ at′ nil ≡ writing ans out at g → Written row (ans g) out at out′ at′

@@ -1,45 +1,26 @@
 -- What a turn of the walk over WITH items or column aliases writes.
 -- Assumes nothing.
-use Prim.Native.Nat.{ℕ, _+_, _≤_, _<_}
+use Prim.Native.Nat.{ℕ, _+_, _<_}
 use mathlib.Core.Path.{_≡_, refl, sym, _∙_}
-use mathlib.Core.Bool.{Bool, true, false, _||_}
+use mathlib.Core.Bool.{Bool, true, false}
 use mathlib.Core.List.{List, [], _++_}
-use native.Mathlib.Omega.{arith}
-use borrow.Author.Tests.{eqb-true}
 use lib.Dec.{eqb}
-use Rattle.records.specs.Kinds.{lastNode, withExpressionItem, columnList, expressionList, columnAlias}
+use Rattle.records.specs.declared.record.Rec.{Rec}
 use Rattle.records.specs.Table.{count, kindAt, recordAt, records, part}
 use Rattle.forest.specs.Forest.{Forest, nil, token, node, kids, stretchEnd}
+use Rattle.lent.proofs.Writes.{written-none}
 use Rattle.forest.proofs.Laws.{head-part}
+use Rattle.forest.proofs.Writing.{writing, writing-turn}
 use Rattle.names.specs.declared.names.Bound.{Bound}
 use Rattle.names.specs.declared.bindings.Binder.{Binder}
 use Rattle.names.specs.declared.bindings.Binder.the-variants.{Item, Alias}
-use Rattle.names.specs.Bindings.{entry, boundIn, withItems, selectAliases}
+use Rattle.names.specs.Bindings.{entry, boundIn, withItems, selectAliases, bindingRow}
 use Rattle.names.specs.inner.Binders.{binderKind, isList, binds, names}
 use Rattle.records.proofs.Fields.{kind-of}
 
 -- ---- bound names
 
-pub binder-node : (binder : Binder) {k : ℕ} {x : Bool} → x ≡ eqb k (binderKind binder) → x ≡ true → k ≤ lastNode
-unfolding binderKind
-binder-node Item {k} e y = omega (arith, eqb-true k withExpressionItem (sym e ∙ y))
-binder-node Alias {k} e y = omega (arith, eqb-true k columnAlias (sym e ∙ y))
-
-pub list-node : (binder : Binder) {k : ℕ} {x : Bool} → x ≡ isList binder k → x ≡ true → k ≤ lastNode
-unfolding isList
-list-node Item {k} e y = omega (arith, eqb-true k columnList (sym e ∙ y))
-list-node Alias {k} e y = go (eqb k columnList) (eqb k expressionList) refl refl (sym e ∙ y)
-  where
-    go : (a b : Bool) → eqb k columnList ≡ a → eqb k expressionList ≡ b → (a || b) ≡ true → k ≤ lastNode
-    go true b p q h = omega (arith, eqb-true k columnList p)
-    go false true p q h = omega (arith, eqb-true k expressionList q)
-    go false false p q h = absurd (let z : _≡_ {A = ℕ} 0 1 = cc in omega arith)
-
 module _ (binder : Binder) (src s : List ℕ) (base i : ℕ) (f : Forest) where
-  pub names-token : names binder src (token (recordAt s base i) f) ≡ names binder src f
-  unfolding boundIn
-  names-token = refl
-
   module _ {k : ℕ} (e : k ≡ kindAt s i) where
     kind-eqb : {x : Bool} → x ≡ eqb k (binderKind binder) → eqb (recordAt s base i .kind) (binderKind binder) ≡ x
     kind-eqb q = rw (kind-of s base i, ← e) (sym q)
@@ -66,6 +47,12 @@ module _ (binder : Binder) (src s : List ℕ) (base i : ℕ) (f : Forest) where
 pub names-none : (binder : Binder) (src : List ℕ) → names binder src nil ≡ []
 unfolding boundIn
 names-none binder src = refl
+
+-- a token adds nothing to what is written
+pub names-pass : (binder : Binder) (src out : List ℕ) (at : ℕ) (r : Rec) (f : Forest)
+    → writing bindingRow (names binder src) out at (token r f) ≡ writing bindingRow (names binder src) out at f
+unfolding boundIn
+names-pass binder src out at r f = writing-turn bindingRow (names binder src) (names binder src) (token r f) f refl (written-none bindingRow out at)
 
 -- ---- the walks of WITH items and of column aliases
 

@@ -3,7 +3,7 @@ use crate::names::Bound;
 use crate::names::NameBinding;
 use crate::names::extract_alias_name;
 use crate::names::extract_cte;
-use forest::stretch::child_from;
+use forest::nodes::node_from;
 use forest::stretch::stretch_of;
 use lent::list::put_entry;
 use lent::number::NUMBER_BYTES;
@@ -107,19 +107,19 @@ fn collect_bound(
 {
     let m = count_of(s);
     let mut next = at;
-    let mut i = child_from(s, 1);
+    let mut i = node_from(s, 1);
     while i < m {
         let kind = kind_at(s, i);
         if is_binder(binder, kind) {
             let part = stretch_of(s, i);
             next = put_bound(extract_bound(binder, part, base + i, source), out, next);
-            i = child_from(s, i + count_of(part));
+            i = node_from(s, i + count_of(part));
         } else if is_list(binder, kind) {
             let part = stretch_of(s, i);
             next = collect_bound(binder, part, base + i, source, out, next);
-            i = child_from(s, i + count_of(part));
+            i = node_from(s, i + count_of(part));
         } else {
-            i = child_from(s, i + 1);
+            i = node_from(s, i + 1);
         }
     }
     next

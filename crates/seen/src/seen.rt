@@ -1,18 +1,22 @@
 // The WITH names of a root that a query inside it sees (document 02, §4).
-use collection::collection::visits;
 use forest::stretch::reach_below;
 use forest::stretch::rest_from;
 use forest::stretch::stretch_end;
 use names::bindings::put_bound;
 use names::names::extract_cte;
 use records::kinds::COLUMN_LIST;
+use records::kinds::SUBQUERY_EXPRESSION;
 use records::kinds::WITH_CLAUSE;
 use records::kinds::WITH_EXPRESSION_ITEM;
+use records::kinds::is_node;
 use records::record::count_of;
 use records::record::depth_at;
 use records::record::kind_at;
 ghost use mathlib.Core.Path.{_≡_};
+ghost use mathlib.Core.Bool.{_&&_, not};
 ghost use Prim.Native.Nat.{_+_, _≤_, _<_};
+ghost use lib.Dec.{eqb};
+ghost use Rattle.records.specs.Kinds.{isNode, subqueryExpression};
 ghost use Rattle.records.specs.Table.{count};
 ghost use Rattle.forest.specs.Forest.{inside};
 ghost use Rattle.conditions.specs.Conditions.{mostRecords};
@@ -21,6 +25,13 @@ ghost use Rattle.names.specs.Bindings.{bindingRow};
 ghost use Rattle.forest.specs.Above.{standsBelow};
 ghost use Rattle.seen.specs.Seen.{items, itemsBefore, boundBy, seenOf};
 ghost use Rattle.seen.specs.inner.Room.{clauseBytes, rootBytes};
+
+// Is a child of kind k a node that collection visits?
+fn visits(k: usize) -> bool
+    ensures { λ r. ⌜ r ≡ (isNode k && not (eqb k subqueryExpression)) ⌝ }
+{
+    is_node(k) & (k != SUBQUERY_EXPRESSION)
+}
 
 // Record n stands below record x: in its stretch, behind its head.
 fn is_below(table: &[u8], x: usize, n: usize) -> bool

@@ -10,7 +10,9 @@ use Rattle.records.specs.declared.record.Rec.{Rec}
 use Rattle.records.specs.Kinds.{joinClause, tableIdentifier, tableExpression, tableAlias}
 use Rattle.records.specs.Table.{count, kindAt, recordAt, records, part}
 use Rattle.forest.specs.Forest.{Forest, nil, token, node, kids, stretchEnd}
+use Rattle.lent.proofs.Writes.{written-none}
 use Rattle.forest.proofs.Laws.{head-part}
+use Rattle.forest.proofs.Writing.{writing, writing-turn}
 use Rattle.names.specs.declared.names.Bound.{Bound}
 use Rattle.names.specs.declared.names.Bound.the-variants.{Unnamed, Named}
 use Rattle.tables.specs.declared.pending.TableRef.{TableRef}
@@ -84,10 +86,6 @@ module _ {E : Type 0} (L : Listing E) (src : List ℕ) (p : Pending) (r : Rec) (
         at-other e = rw (a, b, c, e)
 
 module _ {E : Type 0} (L : Listing E) (src : List ℕ) (p : Pending) (s : List ℕ) (base i : ℕ) (f : Forest) where
-  pub read-token : tableReading L src p (token (recordAt s base i) f) ≡ tableReading L src p f
-  unfolding tableReading
-  read-token = refl
-
   pub read-name : {q : Pending} (below : Forest) → kindAt s i ≡ tableIdentifier → q ≡ fresh src (base + i) (direct isPart below)
       → tableReading L src p (node (recordAt s base i) below f) ≡ handOn L p ++ tableReading L src q f
   read-name below e q = at-name L src p _ below f (kind-yes s base i e) ∙ rw (index-of s base i, q)
@@ -117,3 +115,9 @@ module _ {E : Type 0} (L : Listing E) (src : List ℕ) (p : Pending) (s : List �
 pub read-end : {E : Type 0} (L : Listing E) (src : List ℕ) (p : Pending) → tableReading L src p nil ≡ handOn L p
 unfolding tableReading
 read-end L src p = refl
+
+-- a token adds nothing to what is written
+pub reading-passes : {E : Type 0} (row : E → List ℕ) (L : Listing E) (src : List ℕ) (p : Pending) (out : List ℕ) (at : ℕ) (r : Rec) (f : Forest)
+    → writing row (tableReading L src p) out at (token r f) ≡ writing row (tableReading L src p) out at f
+unfolding tableReading
+reading-passes row L src p out at r f = writing-turn row (tableReading L src p) (tableReading L src p) (token r f) f refl (written-none row out at)

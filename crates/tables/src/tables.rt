@@ -4,7 +4,7 @@ use crate::pending::TableRef;
 use crate::pending::extract_table_identifier;
 use crate::pending::is_pending;
 use crate::pending::with_alias;
-use forest::stretch::child_from;
+use forest::nodes::node_from;
 use forest::stretch::stretch_of;
 use lent::list::put_entry;
 use names::bindings::put_bound;
@@ -103,32 +103,32 @@ pub fn collect_table_refs(
     let m = count_of(s);
     let mut next = at;
     let mut pending = Pending::Nothing;
-    let mut i = child_from(s, 1);
+    let mut i = node_from(s, 1);
     while i < m {
         let kind = kind_at(s, i);
         if kind == TABLE_IDENTIFIER {
             let part = stretch_of(s, i);
             next = hand_on(reads, pending, out, next);
             pending = extract_table_identifier(part, base + i, source);
-            i = child_from(s, i + count_of(part));
+            i = node_from(s, i + count_of(part));
         } else if kind == TABLE_ALIAS {
             let part = stretch_of(s, i);
             let bound = extract_alias_name(part, base + i, source);
             next = put_alias(reads, pending, bound, out, next);
             pending = with_alias(pending, bound);
-            i = child_from(s, i + count_of(part));
+            i = node_from(s, i + count_of(part));
         } else if kind == TABLE_EXPRESSION {
             let part = stretch_of(s, i);
             next = collect_table_refs(reads, part, base + i, source, out, next);
-            i = child_from(s, i + count_of(part));
+            i = node_from(s, i + count_of(part));
         } else if kind == JOIN_CLAUSE {
             let part = stretch_of(s, i);
             next = hand_on(reads, pending, out, next);
             pending = Pending::Nothing;
             next = collect_table_refs(reads, part, base + i, source, out, next);
-            i = child_from(s, i + count_of(part));
+            i = node_from(s, i + count_of(part));
         } else {
-            i = child_from(s, i + 1);
+            i = node_from(s, i + 1);
         }
     }
     hand_on(reads, pending, out, next)

@@ -10,7 +10,7 @@ use Rattle.forest.proofs.NodeWalks.{NodeWalk, node-start, node-on}
 use Rattle.forest.specs.Forest.{kids}
 use Rattle.records.specs.Table.{records}
 use lib.ListN.{length}
-use mathlib.Core.Path.{_≡_, sym, _∙_}
+use mathlib.Core.Path.{_≡_}
 use Prim.Native.Nat.{_+_, _-_, _*_, _≤_, ℕ, _<_}
 use native.Mathlib.Omega.{arith}
 use borrow.Fn.Kinds.{In}

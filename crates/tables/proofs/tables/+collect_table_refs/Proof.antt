@@ -1,10 +1,11 @@
-use Rattle.tables.proofs.Turns.{read-token, read-name, read-alias, read-table, read-join, read-other, read-end}
+use Rattle.tables.proofs.Turns.{reading-passes, read-name, read-alias, read-table, read-join, read-other, read-end}
 use Rattle.tables.specs.inner.Rows.{asRow, rowsOf}
 use Rattle.tables.specs.Tables.{tableReading}
 use Rattle.tables.specs.declared.pending.Pending.the-variants.{Nothing}
 use Rattle.lent.proofs.Writes.{written-none, written-then}
 use Rattle.forest.proofs.Writing.{writing, writing-turn, writing-last}
-use Rattle.forest.proofs.Walks.{Walk, walk-start, walk-end, walk-next, walk-node}
+use Rattle.forest.proofs.Walks.{walk-end}
+use Rattle.forest.proofs.NodeWalks.{NodeWalk, node-start, node-on, node-over}
 use Rattle.forest.specs.Forest.{kids}
 use Rattle.records.specs.Table.{records}
 use lib.ListN.{length}
@@ -25,7 +26,7 @@ use Rattle.tables.proofs.tables.put_alias.Reads as put-alias-reads
 use Rattle.tables.proofs.pending.with_alias.Reads as with-alias-reads
 use Rattle.records.proofs.record.count_of.Reads as count-of-reads
 use Rattle.records.proofs.record.kind_at.Reads as kind-at-reads
-use Rattle.forest.proofs.stretch.child_from.Reads as child-from-reads
+use Rattle.forest.proofs.nodes.node_from.Reads as node-from-reads
 use Rattle.forest.proofs.stretch.stretch_of.Reads as stretch-of-reads
 
 abbrev μ-collect-table-refs : Measures 3 collect-table-refs-kinds.ps ℕ
@@ -50,7 +51,7 @@ collect-table-refs-below t =
 abbrev collect-table-refs-Inv-loop : collect-table-refs-lts.InvT-loop
 collect-table-refs-Inv-loop reads s base source out₀ at m next₀ pending₀ i₀ out next pending i =
     ((1 ≤ i) × (i ≤ m) × (next + 104 ≤ at + 104 * i) × (length out ≡ length out₀))
-    × Walk s base i (writing asRow (tableReading (rowsOf reads) source pending) out next) (writing asRow (tableReading (rowsOf reads) source Nothing) out₀ at (kids (records base s)))
+    × NodeWalk s base i (writing asRow (tableReading (rowsOf reads) source pending) out next) (writing asRow (tableReading (rowsOf reads) source Nothing) out₀ at (kids (records base s)))
 
 abbrev collect-table-refs-μ-loop : collect-table-refs-lts.MeasureT-loop
 collect-table-refs-μ-loop reads s base source out₀ at m next₀ pending₀ i₀ out next pending i = m - i
@@ -59,8 +60,8 @@ abbrev claims : ℕ → collect-table-refs-lts.Claims
 claims t = (
   count-of-reads.Asked,
   count-of-reads.Learnt,
-  child-from-reads.Asked,
-  child-from-reads.Learnt,
+  node-from-reads.Asked,
+  node-from-reads.Learnt,
   kind-at-reads.Asked,
   kind-at-reads.Learnt,
   stretch-of-reads.Asked,
@@ -81,19 +82,19 @@ claims t = (
 
 module _ (t : ℕ) where
   loop-holds : collect-table-refs-lts.Need-loop-holds (claims t) (collect-table-refs-at t) collect-table-refs.Post collect-table-refs-Inv-loop collect-table-refs-μ-loop
-  loop-holds c = (omega arith, walk-start _ _ (writing asRow (tableReading _ _ _) _ _) (omega arith) (c .child-from .ensures))
+  loop-holds c = (omega arith, node-start (writing asRow (tableReading _ _ _) _ _) (reading-passes asRow _ _ _ _ _) _ _ (omega arith) (c .node-from .ensures))
 
   loop-again : collect-table-refs-lts.Need-loop-again (claims t) (collect-table-refs-at t) collect-table-refs.Post collect-table-refs-Inv-loop collect-table-refs-μ-loop
   loop-again c = (
     omega arith,
-    walk-node (c .before .before .before .before .before .before .before .before .before .before .before .loop .inv .1) (omega arith) (omega arith) (c .before .before .before .before .before .before .before .stretch-of .ensures .0) (omega arith) (c .child-from2 .ensures)
+    node-on (writing asRow (tableReading _ _ _) _ _) (reading-passes asRow _ _ _ _ _) (c .before .before .before .before .before .before .before .before .before .before .before .loop .inv .1) (omega arith) (c .before .before .before .before .before .before .before .stretch-of .ensures .0) (omega arith) (c .node-from2 .ensures)
         (λ f. writing-turn asRow (tableReading _ _ _) (tableReading _ _ _) _ _ (read-name _ _ _ _ _ _ f _ (omega arith) (c .before .before .extract-table-identifier .ensures)) (c .before .before .before .before .before .hand-on .ensures .0)),
   )
 
   loop-again-2 : collect-table-refs-lts.Need-loop-again-2 (claims t) (collect-table-refs-at t) collect-table-refs.Post collect-table-refs-Inv-loop collect-table-refs-μ-loop
   loop-again-2 c = (
     omega arith,
-    walk-node (c .before .before .before .before .before .before .before .before .before .before .before .before .before .loop .inv .1) (omega arith) (omega arith) (c .before .before .before .before .before .before .before .before .stretch-of2 .ensures .0) (omega arith) (c .child-from3 .ensures)
+    node-on (writing asRow (tableReading _ _ _) _ _) (reading-passes asRow _ _ _ _ _) (c .before .before .before .before .before .before .before .before .before .before .before .before .before .loop .inv .1) (omega arith) (c .before .before .before .before .before .before .before .before .stretch-of2 .ensures .0) (omega arith) (c .node-from3 .ensures)
         (λ f. writing-turn asRow (tableReading _ _ _) (tableReading _ _ _) _ _ (read-alias _ _ _ _ _ _ f (omega arith) (c .before .before .before .before .before .before .before .before .stretch-of2 .ensures .0) (omega arith) (c .before .before .before .before .before .before .before .extract-alias-name .ensures) (c .before .before .with-alias .ensures)) (c .before .before .before .before .before .put-alias .ensures .0)),
   )
 
@@ -103,7 +104,7 @@ module _ (t : ℕ) where
   loop-again-3 : collect-table-refs-lts.Need-loop-again-3 (claims t) (collect-table-refs-at t) collect-table-refs.Post collect-table-refs-Inv-loop collect-table-refs-μ-loop
   loop-again-3 c = (
     omega arith,
-    walk-node (c .before .before .before .before .before .before .before .before .before .before .before .before .loop .inv .1) (omega arith) (omega arith) (c .before .before .before .before .before .before .stretch-of3 .ensures .0) (omega arith) (c .child-from4 .ensures)
+    node-on (writing asRow (tableReading _ _ _) _ _) (reading-passes asRow _ _ _ _ _) (c .before .before .before .before .before .before .before .before .before .before .before .before .loop .inv .1) (omega arith) (c .before .before .before .before .before .before .stretch-of3 .ensures .0) (omega arith) (c .node-from4 .ensures)
         (λ f. writing-turn asRow (tableReading _ _ _) (tableReading _ _ _) _ _ (read-table _ _ _ _ _ _ f _ (omega arith)) (c .before .before .before .before .collect-table-refs .ensures .0)),
   )
 
@@ -113,23 +114,22 @@ module _ (t : ℕ) where
   loop-again-4 : collect-table-refs-lts.Need-loop-again-4 (claims t) (collect-table-refs-at t) collect-table-refs.Post collect-table-refs-Inv-loop collect-table-refs-μ-loop
   loop-again-4 c = (
     omega arith,
-    walk-node (c .before .before .before .before .before .before .before .before .before .before .before .before .before .before .before .before .before .loop .inv .1) (omega arith) (omega arith) (c .before .before .before .before .before .before .before .before .before .before .stretch-of4 .ensures .0) (omega arith) (c .child-from5 .ensures)
+    node-on (writing asRow (tableReading _ _ _) _ _) (reading-passes asRow _ _ _ _ _) (c .before .before .before .before .before .before .before .before .before .before .before .before .before .before .before .before .before .loop .inv .1) (omega arith) (c .before .before .before .before .before .before .before .before .before .before .stretch-of4 .ensures .0) (omega arith) (c .node-from5 .ensures)
         (λ f. writing-turn asRow (tableReading _ _ _) (tableReading _ _ _) _ _ (read-join _ _ _ _ _ _ f _ (omega arith)) (written-then asRow (c .before .before .before .before .before .before .before .before .hand-on2 .ensures .0) (c .before .before .before .before .collect-table-refs2 .ensures .0))),
   )
 
   loop-again-5 : collect-table-refs-lts.Need-loop-again-5 (claims t) (collect-table-refs-at t) collect-table-refs.Post collect-table-refs-Inv-loop collect-table-refs-μ-loop
   loop-again-5 c = (
     omega arith,
-    walk-next (c .before .before .before .before .before .before .before .loop .inv .1) (omega arith) (c .child-from6 .ensures)
-        (λ g f. writing-turn asRow (tableReading _ _ _) (tableReading _ _ _) _ _ (read-token _ _ _ _ _ _ f) (written-none asRow _ _))
-        (λ g b f. writing-turn asRow (tableReading _ _ _) (tableReading _ _ _) _ _ (read-other _ _ _ _ _ _ f b (omega arith) (omega arith) (omega arith) (omega arith)) (written-none asRow _ _)),
+    node-over (writing asRow (tableReading _ _ _) _ _) (reading-passes asRow _ _ _ _ _) (c .before .before .before .before .before .before .before .loop .inv .1) (omega arith) (c .node-from6 .ensures)
+        (λ b f. writing-turn asRow (tableReading _ _ _) (tableReading _ _ _) _ _ (read-other _ _ _ _ _ _ f b (omega arith) (omega arith) (omega arith) (omega arith)) (written-none asRow _ _)),
   )
 
   same-length : collect-table-refs-lts.Need-same-length (claims t) (collect-table-refs-at t) collect-table-refs.Post collect-table-refs-Inv-loop collect-table-refs-μ-loop
   same-length c = omega arith
 
   returns : collect-table-refs-lts.Need-returns (claims t) (collect-table-refs-at t) collect-table-refs.Post collect-table-refs-Inv-loop collect-table-refs-μ-loop
-  returns c = (writing-last asRow (tableReading _ _ _) (tableReading _ _ _) _ (rw (read-end _ _ _) (c .before .before .hand-on3 .ensures .0)) (walk-end (c .before .before .before .before .before .loop .inv .1) (omega arith)), omega arith)
+  returns c = (writing-last asRow (tableReading _ _ _) (tableReading _ _ _) _ (rw (read-end _ _ _) (c .before .before .hand-on3 .ensures .0)) (walk-end (c .before .before .before .before .before .loop .inv .1 .walk) (omega arith)), omega arith)
 
 pub +collect-table-refs-spec : {M : Type 1} → statement M
 +collect-table-refs-spec =
@@ -140,7 +140,7 @@ pub +collect-table-refs-spec : {M : Type 1} → statement M
     collect-table-refs-Inv-loop
     collect-table-refs-μ-loop
     (λ c κs. omega arith)  -- count-of-requires
-    (λ c κs. omega arith)  -- child-from-requires
+    (λ c κs. omega arith)  -- node-from-requires
     (loop-holds t)  -- loop-holds
     (λ c κs. omega arith)  -- kind-at-requires
     (λ c κs. omega arith)  -- stretch-of-requires
@@ -148,8 +148,8 @@ pub +collect-table-refs-spec : {M : Type 1} → statement M
     (λ c. omega arith)  -- add-extract-table-identifier
     (λ c κs. omega arith)  -- extract-table-identifier-requires
     (λ c κs. omega arith)  -- count-of-requires-2
-    (λ c. omega arith)  -- add-child-from
-    (λ c κs. omega arith)  -- child-from-requires-2
+    (λ c. omega arith)  -- add-node-from
+    (λ c κs. omega arith)  -- node-from-requires-2
     (λ c. omega arith)  -- loop-less
     (loop-again t)  -- loop-again
     (λ c κs. omega arith)  -- stretch-of-requires-2
@@ -158,16 +158,16 @@ pub +collect-table-refs-spec : {M : Type 1} → statement M
     (λ c κs. omega arith)  -- put-alias-requires
     (λ c κs. omega arith)  -- with-alias-requires
     (λ c κs. omega arith)  -- count-of-requires-3
-    (λ c. omega arith)  -- add-child-from-2
-    (λ c κs. omega arith)  -- child-from-requires-3
+    (λ c. omega arith)  -- add-node-from-2
+    (λ c κs. omega arith)  -- node-from-requires-3
     (λ c. omega arith)  -- loop-less-2
     (loop-again-2 t)  -- loop-again-2
     (λ c κs. omega arith)  -- stretch-of-requires-3
     (λ c. omega arith)  -- add-collect-table-refs
     (collect-table-refs-requires t)  -- collect-table-refs-requires
     (λ c κs. omega arith)  -- count-of-requires-4
-    (λ c. omega arith)  -- add-child-from-3
-    (λ c κs. omega arith)  -- child-from-requires-4
+    (λ c. omega arith)  -- add-node-from-3
+    (λ c κs. omega arith)  -- node-from-requires-4
     (λ c. omega arith)  -- loop-less-3
     (loop-again-3 t)  -- loop-again-3
     (λ c κs. omega arith)  -- stretch-of-requires-4
@@ -175,12 +175,12 @@ pub +collect-table-refs-spec : {M : Type 1} → statement M
     (λ c. omega arith)  -- add-collect-table-refs-2
     (collect-table-refs-requires-2 t)  -- collect-table-refs-requires-2
     (λ c κs. omega arith)  -- count-of-requires-5
-    (λ c. omega arith)  -- add-child-from-4
-    (λ c κs. omega arith)  -- child-from-requires-5
+    (λ c. omega arith)  -- add-node-from-4
+    (λ c κs. omega arith)  -- node-from-requires-5
     (λ c. omega arith)  -- loop-less-4
     (loop-again-4 t)  -- loop-again-4
-    (λ c. omega arith)  -- add-child-from-5
-    (λ c κs. omega arith)  -- child-from-requires-6
+    (λ c. omega arith)  -- add-node-from-5
+    (λ c κs. omega arith)  -- node-from-requires-6
     (λ c. omega arith)  -- loop-less-5
     (loop-again-5 t)  -- loop-again-5
     (λ c κs. omega arith)  -- hand-on-requires-3

@@ -1,6 +1,6 @@
 use borrow.Author.Needs.{needs}
-use Rattle.collection.proofs.collection.visits.Statement.{statement}
-use Rattle.collection.proofs.collection.visits.Tie as tie
+use Rattle.seen.proofs.seen.visits.Statement.{statement}
+use Rattle.seen.proofs.seen.visits.Tie as tie
 
 pub visits-spec : {M : Type 1} → statement M
 visits-spec =
