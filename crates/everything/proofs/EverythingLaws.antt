@@ -31,8 +31,8 @@ use Rattle.cursor.specs.CursorContext.{contextAt}
 use Rattle.cursor_root.specs.Root.{rootAt}
 use Rattle.offers.specs.WithNames.{offeredIn, withNamesAt}
 use Rattle.everything.specs.declared.everything.Counts.{Counts}
-use Rattle.everything.specs.Everything.{Buffers, buffers, everythingRow, roomRules, everythingVerdict, Everything}
-use Rattle.everything.specs.inner.Counts.{entriesIn, countsIn, countedRow, everythingBytes, roomsFor}
+use Rattle.everything.specs.Everything.{Buffers, buffers, everythingRow, everythingBytes, roomRules, everythingVerdict, Everything}
+use Rattle.everything.specs.inner.Counts.{entriesIn, countsIn, countedRow, roomsFor}
 
 -- ---- how many entries there are
 

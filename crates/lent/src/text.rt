@@ -20,7 +20,7 @@ pub fn text_of(source: &[u8], start: usize, end: usize) -> &[u8]
 }
 
 // ASCII upper case of a byte.
-pub fn upper(b: u8) -> u8
+fn upper(b: u8) -> u8
     ensures { λ r. ⌜ r ≡ upper b ⌝ }
 {
     match b {

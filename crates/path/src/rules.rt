@@ -1,4 +1,4 @@
-// Which of document 01's path rules speaks of a node. Its numbers are those of cursor/specs/PathRules.antt: 1 is the trailing
+// Which of document 01's path rules speaks of a node. Its numbers are those of contexts/specs/PathRules.antt: 1 is the trailing
 // rule, 14 the last.
 use crate::gathered::Next;
 use records::kinds::AGGREGATE_FUNCTION;

@@ -15,6 +15,7 @@ use Rattle.contexts.specs.declared.context.CursorContext.{CursorContext}
 use Rattle.contexts.specs.Context.{contextRow}
 use Rattle.offers.specs.WithNames.{offeredIn}
 use Rattle.everything.specs.declared.everything.Counts.{Counts}
+use Rattle.everything.specs.Everything.{everythingBytes}
 
 -- how many entries a list has by its reply: those that were written, or those that had no room
 unfoldable pub entriesIn : Listed → ℕ
@@ -34,10 +35,6 @@ countsIn src t n =
 -- the entry, by its parts
 abbrev pub countedRow : CursorContext → ℕ → Counts → List ℕ
 countedRow x n c = contextRow x ++ n ∷ c .names ∷ c .aliases ∷ c .columns ∷ c .refs ∷ []
-
--- how many bytes it takes
-abbrev pub everythingBytes : ℕ
-everythingBytes = 36
 
 -- 7, by the counts, for buffers of these lengths
 unfoldable pub roomsFor : Counts → ℕ → ℕ → ℕ → ℕ → ℕ → List Rule
