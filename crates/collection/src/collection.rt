@@ -79,8 +79,8 @@ fn own_part(asked: Asked, s: &[u8], base: usize, source: &[u8], out: &mut [u8], 
     }
 }
 
-// The collection of the node at the head of the stretch s, whose number is base; a child in which there is nothing to collect is passed over. Writes the list that is asked for into out from byte `at`
-// on, and returns where the next entry goes.
+// The collection of the node at the head of the stretch s, whose number is base; a child in which there is nothing to collect is passed over.
+// Writes the list that is asked for into out from byte `at` on, and returns where the next entry goes.
 pub fn collect_scope(
     asked: Asked,
     s: &[u8],
