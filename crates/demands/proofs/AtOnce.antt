@@ -5,6 +5,7 @@ use Prim.Native.Nat.{ℕ, _+_, _≤_}
 use mathlib.Core.Path.{_≡_, refl, sym, ap, _∙_}
 use mathlib.Core.Bool.{Bool, true, false, cond}
 use mathlib.Core.List.{List, [], _∷_, _++_}
+use mathlib.Core.Logic.{_⊎_, inl, inr}
 use native.Mathlib.Omega.{arith}
 use borrow.Author.Tests.{le-ltb, ltb-true, ltb-false}
 use lib.Dec.{ltb}
@@ -30,7 +31,7 @@ use Rattle.everything.proofs.EverythingLaws.{entry-size}
 use Rattle.demands.specs.declared.Question.{Question}
 use Rattle.demands.specs.declared.Question.the-variants.{CursorRoot}
 use Rattle.demands.specs.Questions.{Asked, asked, matter, plain, number, list}
-use Rattle.demands.specs.Demand1.{of-table, Answer, Refusal}
+use Rattle.demands.specs.Demand1.{of-table, Answer, Refusal, Refuses}
 use Rattle.demands.specs.AtOnce.{Single, Singles, answerIn, Together, FirstRefused, every, of-entry, of-names, of-aliases, of-columns, of-refs, AtOnce}
 use Rattle.demands.proofs.Stages.{after, numbers}
 use Rattle.demands.proofs.Replies.{packing, demanded, one-reply}
@@ -117,9 +118,10 @@ module _ (src t : List ℕ) (o : ℕ) where
 
     -- what is true of the call where it is refused with k and d, and of every other number nothing
     all-refused : {k d : ℕ} → 1 ≤ k → k ≤ 12 → Refused k d ≡ everythingVerdict src t o b → FirstRefused s k d
-        → (Answer r → Together s a) × ((k′ d′ : ℕ) → Refusal r k′ d′ → FirstRefused s k′ d′ × (a ≡ b))
+        → (Answer r ⊎ Refuses r) × (Answer r → Together s a) × ((k′ d′ : ℕ) → Refusal r k′ d′ → FirstRefused s k′ d′ × (a ≡ b))
     all-refused {k} {d} f g v w =
         let e : r ≡ packed k d = is-refused v in (
+          inr (record { number = k; detail = d; is = record { from = f; to = g; is = e } }),
           λ x. absurd (omega (arith, x .is, e)),
           λ k′ d′ x.
               let y : k ≡ k′ = omega (arith, x .from, x .to, x .is, e) in
@@ -127,7 +129,7 @@ module _ (src t : List ℕ) (o : ℕ) where
               ((rw (y, z) at w), untouched v),
         )
 
-    by-table : {k d : ℕ} → Refused k d ≡ first rs → (Answer r → Together s a) × ((k′ d′ : ℕ) → Refusal r k′ d′ → FirstRefused s k′ d′ × (a ≡ b))
+    by-table : {k d : ℕ} → Refused k d ≡ first rs → (Answer r ⊎ Refuses r) × (Answer r → Together s a) × ((k′ d′ : ℕ) → Refusal r k′ d′ → FirstRefused s k′ d′ × (a ≡ b))
     unfolding matter everythingVerdict
     by-table v =
         all-refused (bounds v .0) (bounds v .1) (then-refused rs (roomRules src t o b) v)
@@ -137,7 +139,7 @@ module _ (src t : List ℕ) (o : ℕ) where
 
     module _ (ok : Admitted ≡ first rs) where
       abbrev goal : Type 0
-      goal = (Answer r → Together s a) × ((k d : ℕ) → Refusal r k d → FirstRefused s k d × (a ≡ b))
+      goal = (Answer r ⊎ Refuses r) × (Answer r → Together s a) × ((k d : ℕ) → Refusal r k d → FirstRefused s k d × (a ≡ b))
 
       by-rooms : everythingVerdict src t o b ≡ first (roomRules src t o b)
       unfolding everythingVerdict
@@ -171,6 +173,7 @@ module _ (src t : List ℕ) (o : ℕ) where
           let n2 = list-given bindingRow (tableAliases src t root) (b .aliases) refl (s .aliases) ok e2 in
           let n3 = list-given bindingRow (columnAliases src t root) (b .columns) refl (s .columns) ok e3 in
           let n4 = list-given referenceRow (tableRefs src t root) (b .refs) refl (s .refs) ok e4 in (
+            inl (record { said = 1; is = q }),
             λ x. record {
               root = n0 .0;
               context = c .0;
@@ -217,6 +220,6 @@ pub at-once : (src t : List ℕ) (o : ℕ) (before : Buffers) {reply : ℕ} {aft
 at-once src t o b {reply} {after} p l s = go (first (rules t (length src) 0)) refl
   where
     go : (v : Verdict) → v ≡ first (rules t (length src) 0)
-        → (Answer reply → Together s after) × ((k d : ℕ) → Refusal reply k d → FirstRefused s k d × (after ≡ b))
+        → (Answer reply ⊎ Refuses reply) × (Answer reply → Together s after) × ((k d : ℕ) → Refusal reply k d → FirstRefused s k d × (after ≡ b))
     go (Refused k d) e = by-table src t o b after l s p e
     go Admitted e = by-bools src t o b after l s p e _ _ _ _ _ refl refl refl refl refl

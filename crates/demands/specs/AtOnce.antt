@@ -5,6 +5,7 @@
 use Prim.Native.Nat.{ℕ, _/_, _≤_, _<_}
 use mathlib.Core.Path.{_≡_}
 use mathlib.Core.List.{List, [], _++_}
+use mathlib.Core.Logic.{_⊎_}
 use lib.ListN.{length, take, drop}
 use Rattle.lent.specs.Numbers.{le4}
 use Rattle.contexts.specs.Context.{contextBytes}
@@ -13,7 +14,7 @@ use Rattle.everything.specs.Everything.{Buffers, everythingBytes}
 use Rattle.demands.specs.declared.Question.{Question}
 use Rattle.demands.specs.declared.Question.the-variants.{CursorContext, CursorRoot, WithNamesAt, TableAliasesAt, ColumnAliasesAt, TableRefsAt}
 use Rattle.demands.specs.Questions.{asked}
-use Rattle.demands.specs.Demand1.{Answer, Refusal}
+use Rattle.demands.specs.Demand1.{Answer, Refusal, Refuses}
 use Rattle.demands.specs.Demand2.{Meets}
 
 -- a single question over the table, the source and the offset, in a buffer: its reply, and what is in the buffer afterwards
@@ -66,7 +67,7 @@ module _ {src t : List ℕ} {o : ℕ} {b : Buffers} (s : Singles src t o b) wher
     of-refs : k ≡ 7 → everythingBytes ≤ length (b .entry) → Answer (s .names .reply) → Answer (s .aliases .reply) → Answer (s .columns .reply)
         → Refusal (s .refs .reply) k d → FirstRefused k d
 
--- the call's reply and buffers beside those of any six single questions that meet the demands
+-- the call's reply and buffers beside those of any six single questions that meet the demands: it is answered as they are, or refused as they are
 abbrev pub AtOnce : List ℕ → List ℕ → ℕ → Buffers → ℕ → Buffers → Type 0
 AtOnce src t o before reply after = (s : Singles src t o before)
-    → (Answer reply → Together s after) × ((k d : ℕ) → Refusal reply k d → FirstRefused s k d × (after ≡ before))
+    → (Answer reply ⊎ Refuses reply) × (Answer reply → Together s after) × ((k d : ℕ) → Refusal reply k d → FirstRefused s k d × (after ≡ before))
