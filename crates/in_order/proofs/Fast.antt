@@ -1,10 +1,10 @@
 -- The fast check: a loop that only says that every record is in order.
---     InOrder, order-start, -node, -token, -end    the loop: what it says is that the rules admit the table
+--     InOrder, order-start, -up, -node, -deepest, -token, -end    the loop: what it says is that the rules admit the table
 -- Assumes nothing.
 use Prim.Native.Nat.{ℕ, zero, suc, _+_, _-_, _≤_, _<_}
 use mathlib.Core.Path.{_≡_, refl, sym, ap, _∙_}
 use mathlib.Core.Bool.{Bool, true, false, cond, not, _&&_, _||_}
-use mathlib.Core.Logic.{⊎-elim}
+use mathlib.Core.Logic.{_⊎_, inl, inr, ⊎-elim}
 use mathlib.Core.List.{List}
 use native.Mathlib.Numerals.{add-one}
 use native.Mathlib.Nat.{zero-add}
@@ -21,7 +21,7 @@ use Rattle.conditions.specs.Conditions.{mostDepth, unlisted, misplaced, tooDeep
 use Rattle.refusals.specs.ByRecord.{rulesFrom}
 use Rattle.lent.specs.Verdicts.{first}
 use Rattle.conditions.specs.inner.Step.{depths, deepestNext, knownAt, outOfPlace}
-use Rattle.in_order.specs.inner.Fast.{firstFits, tokenFits, deepestUnder}
+use Rattle.in_order.specs.inner.Fast.{firstFits, spanFits}
 use Rattle.lent.proofs.Cases.{lt-or-le, eq-or-not, both}
 use Rattle.conditions.proofs.Steps.{place-at}
 
@@ -43,16 +43,17 @@ module _ (t : List ℕ) where
     pub spanned : isToken (kindAt t j) ≡ true → (startAt t j ≤ endAt t j) × (lastEnd t j ≤ startAt t j)
 
   -- before record i
-  pub record InOrder (i limit last : ℕ) (above : List ℕ) : Type 0 where
+  pub record InOrder (i limit parent last : ℕ) (above : List ℕ) : Type 0 where
     pub kept : (j : ℕ) → j < i → Kept j
     pub reach : limit ≤ deepestNext t i
     pub shallow : limit ≤ mostDepth
+    pub below : 1 ≤ limit
+    pub carried : parent ≡ nearest t limit i
     pub ends : last ≡ lastEnd t i
     pub wide : length above ≡ depths
-    pub none : getD above 0 0 ≡ wordLimit
     pub parents : (d : ℕ) → 1 ≤ d → d ≤ limit → getD above d 0 ≡ nearest t d i
 
-  pub order-start : firstFits t ≡ true → InOrder 1 1 0 (set (replicate depths 0) 0 wordLimit)
+  pub order-start : firstFits t ≡ true → InOrder 1 1 0 0 (replicate depths 0)
   unfolding misplaced nearest deepestNext lastEnd
   order-start e =
       let b = both (isNode (kindAt t 0) && eqb (depthAt t 0) 0) (eqb (parentAt t 0) 0) e in
@@ -72,26 +73,44 @@ module _ (t : List ℕ) where
             });
         reach = rw (x, d) (omega arith);
         shallow = omega arith;
+        below = omega arith;
+        carried = rw d;
         ends = rw x;
         wide = refl;
-        none = refl;
         parents = λ k p q. let z : k ≡ 1 = omega arith in rw (z, d);
       }
 
-  module _ {i limit last : ℕ} {above : List ℕ} (w : InOrder i limit last above) (s : 1 ≤ i) (h : i < count t)
-      {d : ℕ} (e : d ≡ depthAt t i) (l : d ≤ limit) (p : parentAt t i ≡ getD above d 0) (small : parentAt t i < wordLimit) where
-    -- nothing carries what stands for depth 0
-    under : 1 ≤ d
-    under = ⊎-elim (λ g. g) (λ g. let z : d ≡ 0 = omega arith in absurd (omega (arith, rw z at p, w .none))) (lt-or-le 0 d)
+  -- record i goes up, to depth d
+  pub order-up : {i limit parent last : ℕ} {above : List ℕ} → InOrder i limit parent last above → {d p : ℕ} → 1 ≤ d → d ≤ limit → p ≡ getD above d 0
+      → InOrder i d p last above
+  order-up w {d} u l e =
+      record {
+        kept = w .kept;
+        reach = omega (arith, w .reach);
+        shallow = omega (arith, w .shallow);
+        below = u;
+        carried = e ∙ w .parents d u l;
+        ends = w .ends;
+        wide = w .wide;
+        parents = λ n a b. w .parents n a (omega arith);
+      }
 
+  -- record i is as deep as it may be, or goes up: from here on the limit is its depth
+  pub order-at : {i limit parent last d p : ℕ} {above : List ℕ} → InOrder i limit parent last above
+      → ((1 ≤ d) × (d ≤ limit) × (d ≡ depthAt t i) × (p ≡ getD above d 0)) ⊎ ((d ≡ limit) × (limit ≡ depthAt t i) × (p ≡ parent))
+      → InOrder i d p last above × (d ≡ depthAt t i)
+  order-at w (inl (a, b, e, q)) = (order-up w a b q, e)
+  order-at w (inr (z, e, q)) = (rw (z, q) w, z ∙ e)
+
+  module _ {i d parent last : ℕ} {above : List ℕ} (w : InOrder i d parent last above) (s : 1 ≤ i) (e : d ≡ depthAt t i) (p : parentAt t i ≡ parent) where
     place : misplaced t i ≡ false
-    place = sym (place-at t i) ∙ (unfold outOfPlace knownAt recordAt in rw (zero-add i, ne-eqb i 0 (λ z. omega arith), ← e, ne-eqb d 0 (λ z. omega (arith, under)), le-ltb (deepestNext t i) d (omega (arith, w .reach))))
+    place = sym (place-at t i) ∙ (unfold outOfPlace knownAt recordAt in rw (zero-add i, ne-eqb i 0 (λ z. omega arith), ← e, ne-eqb d 0 (λ z. omega (arith, w .below)), le-ltb (deepestNext t i) d (w .reach)))
 
     deep : tooDeep t i ≡ false
-    deep = rw (← e) (le-ltb mostDepth d (omega (arith, w .shallow)))
+    deep = rw (← e) (le-ltb mostDepth d (w .shallow))
 
-    parent : wrongParent t i ≡ false
-    parent = rw (eq-eqb (parentAt t i) (parentOf t i) (p ∙ w .parents d under l ∙ rw e))
+    right : wrongParent t i ≡ false
+    right = rw (eq-eqb (parentAt t i) (parentOf t i) (p ∙ w .carried ∙ rw e))
 
     -- the records before, and this one
     further : Kept i → (j : ℕ) → j < suc i → Kept j
@@ -102,49 +121,62 @@ module _ (t : List ℕ) where
     unfolding nearest
     same k f = rw (← e, ne-eqb (d + 1) k f)
 
-    pub order-node : kindAt t i ≤ lastNode → {above′ : List ℕ} {limit′ : ℕ} → above′ ≡ set above (d + 1) i → limit′ ≡ deepestUnder d
-        → InOrder (i + 1) limit′ last above′
+    -- a node is kept
+    node-kept : kindAt t i ≤ lastNode → Kept i
+    node-kept k =
+        record {
+          listed = rw (le-leb (kindAt t i) lastNode k);
+          placed = place;
+          shallow = deep;
+          parented = right;
+          spanned = λ y. absurd (let x : isToken (kindAt t i) ≡ false = node-token (kindAt t i) k in let z : _≡_ {A = ℕ} 0 1 = cc in omega arith);
+        }
+
+    pub order-node : kindAt t i ≤ lastNode → d < mostDepth → InOrder (i + 1) (d + 1) i last (set above (d + 1) i)
     unfolding nearest deepestNext lastEnd
-    order-node k {above′} {limit′} q r =
+    order-node k l =
         let x : isToken (kindAt t i) ≡ false = node-token (kindAt t i) k in
         rw (add-one i)
         (record {
-          kept = further
-              (record {
-                listed = rw (le-leb (kindAt t i) lastNode k);
-                placed = place;
-                shallow = deep;
-                parented = parent;
-                spanned = λ y. absurd (let z : _≡_ {A = ℕ} 0 1 = cc in omega arith);
-              });
-          reach = rw (x, ← e) (omega (arith, bound));
-          shallow = omega (arith, bound);
+          kept = further (node-kept k);
+          reach = rw (x, ← e) (omega arith);
+          shallow = omega arith;
+          below = omega arith;
+          carried = rw (← e, eq-eqb (d + 1) (d + 1) refl);
           ends = rw x (w .ends);
-          wide = rw q (length-set above (d + 1) i ∙ w .wide);
-          none = rw q (getD-set-other above (d + 1) 0 i 0 (λ z. omega arith) ∙ w .none);
-          parents = λ n a b. rw q (found n a (omega (arith, bound)));
+          wide = length-set above (d + 1) i ∙ w .wide;
+          parents = found;
         })
       where
-        bound : (limit′ ≤ d + 1) × (limit′ ≤ mostDepth)
-        bound = rw r (go (ltb d mostDepth) refl)
-          where
-            go : (c : Bool) → ltb d mostDepth ≡ c → (cond c (d + 1) mostDepth ≤ d + 1) × (cond c (d + 1) mostDepth ≤ mostDepth)
-            go true y = omega (arith, ltb-true d mostDepth y)
-            go false y = omega (arith, ltb-false d mostDepth y)
-
         found : (n : ℕ) → 1 ≤ n → n ≤ d + 1 → getD (set above (d + 1) i) n 0 ≡ nearest t n (suc i)
         found n a b =
             ⊎-elim
-            (λ z. rw (← e, eq-eqb (d + 1) n z, ← z) (getD-set-same above (d + 1) i 0 (omega (arith, w .wide, w .shallow))))
+            (λ z. rw (← e, eq-eqb (d + 1) n z, ← z) (getD-set-same above (d + 1) i 0 (omega (arith, w .wide))))
             (λ z. getD-set-other above (d + 1) n i 0 (λ y. z (sym y)) ∙ w .parents n a (omega arith) ∙ sym (same n z))
             (eq-or-not (d + 1) n)
 
-    pub order-token : {last′ : ℕ} → tokenFits (kindAt t i) (startAt t i) (endAt t i) last ≡ true → last′ ≡ endAt t i → InOrder (i + 1) d last′ above
+    -- nothing may stand below a node that is as deep as one may be
+    pub order-deepest : kindAt t i ≤ lastNode → mostDepth ≤ d → InOrder (i + 1) d parent last above
     unfolding deepestNext lastEnd
-    order-token f q =
-        let b = both (isToken (kindAt t i) && not (ltb (startAt t i) last)) (leb (startAt t i) (endAt t i)) f in
-        let a = both (isToken (kindAt t i)) (not (ltb (startAt t i) last)) (b .0) in
-        let x : isToken (kindAt t i) ≡ true = a .0 in
+    order-deepest k l =
+        let x : isToken (kindAt t i) ≡ false = node-token (kindAt t i) k in
+        rw (add-one i)
+        (record {
+          kept = further (node-kept k);
+          reach = rw (x, ← e) (omega arith);
+          shallow = w .shallow;
+          below = w .below;
+          carried = w .carried ∙ sym (same d (λ z. omega arith));
+          ends = rw x (w .ends);
+          wide = w .wide;
+          parents = λ n a b. w .parents n a b ∙ sym (same n (λ z. omega arith));
+        })
+
+    pub order-token : {last′ : ℕ} → isToken (kindAt t i) ≡ true → spanFits (startAt t i) (endAt t i) last ≡ true → last′ ≡ endAt t i
+        → InOrder (i + 1) d parent last′ above
+    unfolding deepestNext lastEnd
+    order-token x f q =
+        let b = both (not (ltb (startAt t i) last)) (leb (startAt t i) (endAt t i)) f in
         rw (add-one i)
         (record {
           kept = further
@@ -152,15 +184,16 @@ module _ (t : List ℕ) where
                 listed = rw x (listed (isNode (kindAt t i)));
                 placed = place;
                 shallow = deep;
-                parented = parent;
-                spanned = λ y. (leb-true (startAt t i) (endAt t i) (b .1), omega (arith, ltb-false (startAt t i) last (not-true _ (a .1)), w .ends));
+                parented = right;
+                spanned = λ y. (leb-true (startAt t i) (endAt t i) (b .1), omega (arith, ltb-false (startAt t i) last (not-true _ (b .0)), w .ends));
               });
           reach = rw (x, e) (omega arith);
-          shallow = omega (arith, w .shallow);
+          shallow = w .shallow;
+          below = w .below;
+          carried = w .carried ∙ sym (same d (λ z. omega arith));
           ends = rw x q;
           wide = w .wide;
-          none = w .none;
-          parents = λ n u v. w .parents n u (omega arith) ∙ sym (same n (λ z. omega arith));
+          parents = λ n u v. w .parents n u v ∙ sym (same n (λ z. omega arith));
         })
       where
         listed : (c : Bool) → not (c || true) ≡ false
@@ -214,8 +247,8 @@ module _ (t : List ℕ) where
         let y = kept k (omega arith) in
         rw (y .listed, y .placed, y .shallow, y .parented, span n k l (omega arith)) (all n c (suc k) l (omega arith))
 
-  pub order-end : {i limit last n : ℕ} {above : List ℕ} → InOrder i limit last above → count t ≤ i → i ≤ count t → last ≤ n
+  pub order-end : {i limit parent last n : ℕ} {above : List ℕ} → InOrder i limit parent last above → count t ≤ i → i ≤ count t → last ≤ n
       → Admitted ≡ first (rulesFrom t n 0 (count t))
-  order-end {i} {limit} {last} {n} w a b l =
+  order-end {i} {limit} {parent} {last} {n} w a b l =
       let z : i ≡ count t = omega arith in
       sym (rw (← z) (all i (w .kept) n i 0 (omega (arith, w .ends)) (omega arith)))
