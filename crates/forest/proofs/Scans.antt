@@ -4,7 +4,7 @@
 --     sweep-none, sweep-start    a stretch with no record; before the first turn
 --     tokens-none, tokens-start  the same for a reading of tokens alone: the answer is a fold along the list of those that are reached
 --     sweep-end, sweep-stop      after the last record; at a record that is shallower than k
---     sweep-over                 at a record that is too deep
+--     sweep-over, sweep-far      at a record that is too deep; past all that are, to the first that is not
 --     sweep-token                at a token
 --     sweep-into, sweep-past     at a node that is gone into; at one that is not
 -- Assumes nothing.
@@ -20,7 +20,7 @@ use lib.Dec.{ltb}
 use Rattle.records.specs.declared.record.Rec.{Rec}
 use Rattle.records.specs.Kinds.{isNode, lastNode}
 use Rattle.records.specs.Table.{count, kindAt, depthAt, recordAt, from, records}
-use Rattle.forest.specs.Forest.{Forest, nil, token, node, level, kids}
+use Rattle.forest.specs.Forest.{Forest, nil, token, node, level, kids, Reached}
 use Rattle.forest.specs.inner.Scan.{Reading, fold, ofTokens}
 use Rattle.forest.specs.Tokens.{tokensOf, only, reached}
 use Rattle.forest.specs.Descent.{along}
@@ -204,3 +204,13 @@ module _ {S : Type 0} {R : Reading S} {t : List ℕ} {base k m i : ℕ} {s «all
         unfolding sweep recordAt
         sweep-past g b p q =
             record { left = rw (p, q) (rw (from-cons t base i h, le-ltb (depthAt t i) k kd, le-ltb m (depthAt t i) dm, le-leb (kindAt t i) lastNode g, b) at (w .left)) }
+
+-- where a search along the level stops
+pub sweep-far : {S : Type 0} {R : Reading S} {t : List ℕ} {base k m i r : ℕ} {s «all» : S} → Sweep R t base k m i s «all» → k ≤ m → Reached t m i r → Sweep R t base k m r s «all»
+sweep-far {R = R} {t = t} {base = base} {k = k} {m = m} {i = i} {r = r} {s = s} {«all» = «all»} w h v = go (r - i) i (omega (arith, v .on)) (omega arith) w
+  where
+    go : (g x : ℕ) → g + x ≡ r → i ≤ x → Sweep R t base k m x s «all» → Sweep R t base k m r s «all»
+    go zero x z l u = let q : x ≡ r = omega arith in rw q at u
+    go (suc g) x z l u =
+        let d : m < depthAt t x = v .passed x l (omega arith) in
+        go g (x + 1) (omega arith) (omega arith) (sweep-over u (omega (arith, v .within)) (omega arith) d)

@@ -39,13 +39,19 @@ pub fn rest_from(t: &[u8], i: usize) -> &[u8]
     &t[a..]
 }
 
-// The first child of t's first record at or after record j, or the count of records.
+// The first child of t's first record at or after record j, or the count of records. Most often it is record j.
 pub fn child_from(t: &[u8], j: usize) -> usize
     requires { ⌜ (1 ≤ j) × (j ≤ count (now t)) ⌝ }
     ensures { λ r. ⌜ Child (now (t .entry)) j r ⌝ }
 {
     let m = t.len() / RECORD_BYTES;
     let k = depth_at(t, 0) + 1;
+    if j == m {
+        return m;
+    }
+    if depth_at(t, j) == k {
+        return j;
+    }
     let i = far_from(t, k, j);
     if i == m {
         return m;
@@ -57,7 +63,7 @@ pub fn child_from(t: &[u8], j: usize) -> usize
 }
 
 // The first record at or after j that is not deeper than k, or the count of records.
-fn level_from(t: &[u8], k: usize, j: usize) -> usize
+pub fn level_from(t: &[u8], k: usize, j: usize) -> usize
     requires { ⌜ j ≤ count (now t) ⌝ }
     ensures { λ r. ⌜ Reached (now (t .entry)) k j r ⌝ }
 {
@@ -73,7 +79,7 @@ fn level_from(t: &[u8], k: usize, j: usize) -> usize
 }
 
 // The same, four records at a turn, where the step may be a far one.
-fn far_from(t: &[u8], k: usize, j: usize) -> usize
+pub fn far_from(t: &[u8], k: usize, j: usize) -> usize
     requires { ⌜ j ≤ count (now t) ⌝ }
     ensures { λ r. ⌜ Reached (now (t .entry)) k j r ⌝ }
 {

@@ -1,92 +1,25 @@
--- The enclosing statement: the search in a loop over children, and what it finds.
+-- The enclosing statement: the search from record 0, and what it finds.
 --     none-exactly    none is given exactly if no candidate exists
 --     given-first     otherwise the node given is the first innermost candidate in the document
 -- Assumes nothing.
-use Prim.Native.Nat.{ℕ, _+_, _*_, _≤_, _<_}
+use Prim.Native.Nat.{ℕ, _+_}
 use mathlib.Core.Path.{_≡_, refl, sym, ap, _∙_}
-use mathlib.Core.Logic.{_⊎_, ⊎-elim}
-use mathlib.Core.Bool.{Bool, true, false, cond, _&&_}
+use mathlib.Core.Logic.{⊎-elim}
+use mathlib.Core.Bool.{Bool, true, false, cond}
 use mathlib.Core.List.{List, [], _∷_, _++_, append-assoc, List·Memᴰ, List·Memᴰ·head, List·Memᴰ·not-nil, List·Memᴰ·cases-cons, List·Memᴰ·append-cases, Memᴰ·append-right}
 use native.Mathlib.Omega.{arith}
-use borrow.Author.Tests.{le-leb, lt-leb}
-use lib.ListN.{drop}
 use Rattle.records.specs.declared.record.Rec.{Rec}
 use Rattle.lent.specs.declared.verdict.Verdict.{Verdict}
 use Rattle.lent.specs.declared.verdict.Verdict.the-variants.{Admitted, Refused}
-use Rattle.records.specs.Kinds.{isNode, lastNode}
-use Rattle.records.specs.Table.{recordBytes, count, kindAt, startAt, endAt, recordAt, from, records}
-use Rattle.forest.specs.Forest.{Forest, nil, token, node, kids, children, Child}
+use Rattle.records.specs.Table.{kindAt, startAt, endAt, recordAt, from, records}
+use Rattle.forest.specs.Forest.{Forest, nil, token, node, kids}
 use Rattle.forest.specs.Places.{Place, places, nodesOf}
-use Rattle.forest.proofs.Laws.{node-or-token, records-tail}
-use Rattle.forest.proofs.Walks.{Walk, walk-none, walk-start, walk-end, walk-here, walk-at-node, walk-on}
 use Rattle.statement.specs.declared.statement.Enclosing.{Enclosing}
 use Rattle.statement.specs.declared.statement.Enclosing.the-variants.{Outside, Record}
 use Rattle.statement.specs.declared.statement.StatementReply.{StatementReply}
 use Rattle.statement.specs.declared.statement.StatementReply.the-variants.{Refused as Denied}
 use Rattle.records.specs.Ranges.{spans, holds}
 use Rattle.statement.specs.Statement.{isStatement, itself, orElse, firstFind, enclosingAt, told, statementReply, Hold, Innermost, FirstInnermost, NoCandidate}
-
--- ---- the loop at record i
-
-pub record Seeking (o : ℕ) (s : List ℕ) (base i : ℕ) : Type 0 where
-  pub left : Walk s base i (firstFind o) (firstFind o (kids (records base s)))
-
-module _ (o : ℕ) (s : List ℕ) (base : ℕ) where
-  pub seeking-none : count s ≡ 0 → Outside ≡ firstFind o (kids (records base s))
-  unfolding firstFind
-  seeking-none h = walk-none s base (firstFind o) h
-
-  pub seeking-start : {i : ℕ} → 0 < count s → Child s 1 i → Seeking o s base i
-  seeking-start h c = record { left = walk-start s base (firstFind o) h c }
-
-pub seeking-end : {o : ℕ} {s : List ℕ} {base i : ℕ} → Seeking o s base i → count s ≤ i → Outside ≡ firstFind o (kids (records base s))
-unfolding firstFind
-seeking-end v h = walk-end (v .left) h
-
-module _ {o : ℕ} {s : List ℕ} {base i : ℕ} (v : Seeking o s base i) (h : i < count s) where
-  -- after a record that is no node, or does not hold the offset
-  pub seeking-on : {r : ℕ} → (isNode (kindAt s i) && spans o (startAt s i) (endAt s i)) ≡ false → Child s (i + 1) r → Seeking o s base r
-  unfolding firstFind recordAt orElse
-  seeking-on e c =
-      ⊎-elim
-      (λ g.
-      let q : spans o (startAt s i) (endAt s i) ≡ false = rw (le-leb (kindAt s i) lastNode g) at e in
-      record { left = walk-on (v .left) h (rw q at (walk-at-node (v .left) h g)) c })
-      (λ g. record { left = walk-on (v .left) h (walk-here (v .left) h g) c })
-      (node-or-token (kindAt s i))
-
-  module _ {p : List ℕ} {x y : Enclosing} (e : (isNode (kindAt s i) && spans o (startAt s i) (endAt s i)) ≡ true) (d : p ≡ drop (recordBytes * i) s)
-      (f : x ≡ firstFind o (kids (records (base + i) p))) (g : y ≡ orElse x (itself (kindAt s i) (base + i))) where
-    -- what is found in the child, or else behind it
-    found : orElse y (firstFind o (children s base (i + 1))) ≡ firstFind o (kids (records base s))
-    unfolding firstFind recordAt
-    found =
-        ⊎-elim
-        (λ n.
-        let q : spans o (startAt s i) (endAt s i) ≡ true = rw (le-leb (kindAt s i) lastNode n) at e in
-        let z : x ≡ firstFind o (kids (from s base i)) = f ∙ rw (d, records-tail s base i) in
-        rw (g, z) (rw q at (walk-at-node (v .left) h n)))
-        (λ n.
-        let q : false ≡ true = rw (lt-leb (kindAt s i) lastNode n) at e in
-        absurd (let z : _≡_ {A = ℕ} 0 1 = cc in omega arith))
-        (node-or-token (kindAt s i))
-
-    pub seeking-here : {n : ℕ} → y ≡ Record n → Record n ≡ firstFind o (kids (records base s))
-    unfolding orElse
-    seeking-here q = rw q at found
-
-    pub seeking-past : {r : ℕ} → y ≡ Outside → Child s (i + 1) r → Seeking o s base r
-    unfolding orElse
-    seeking-past q c = record { left = walk-on (v .left) h (rw q at found) c }
-
-module _ {x : Enclosing} (y : Enclosing) where
-  pub else-found : {n : ℕ} → x ≡ Record n → Record n ≡ orElse x y
-  unfolding orElse
-  else-found e = rw e
-
-  pub else-other : {z : Enclosing} → x ≡ Outside → z ≡ y → z ≡ orElse x y
-  unfolding orElse
-  else-other e q = rw e q
 
 -- ---- the search from record 0
 

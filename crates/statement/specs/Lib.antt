@@ -1,2 +1,3 @@
 pub mod Statement
+pub mod inner
 pub mod worked

@@ -1,25 +1,26 @@
 // The statement that encloses an offset.
-use forest::stretch::child_from;
-use forest::stretch::rest_from;
+use forest::stretch::far_from;
+use forest::stretch::level_from;
 use lent::verdict::Verdict;
 use records::kinds::DESCRIBE_STATEMENT;
 use records::kinds::SELECT_STATEMENT;
 use records::range::is_holder;
 use records::range::spans;
 use records::record::count_of;
+use records::record::depth_at;
 use records::record::end_at;
 use records::record::kind_at;
 use records::record::start_at;
 use table::check::check;
 ghost use mathlib.Core.Path.{_≡_};
-ghost use Prim.Native.Nat.{_+_, _<_};
+ghost use Prim.Native.Nat.{_≤_, _<_};
 ghost use lib.ListN.{length};
-ghost use Rattle.records.specs.Table.{count, records};
+ghost use Rattle.records.specs.Table.{count};
 ghost use Rattle.lent.specs.Numbers.{wordLimit};
-ghost use Rattle.forest.specs.Forest.{kids};
 ghost use Rattle.table.specs.Rules.{verdict};
 ghost use Rattle.records.specs.Ranges.{spans};
-ghost use Rattle.statement.specs.Statement.{isStatement, itself, orElse, firstFind, enclosingAt, told, statementReply};
+ghost use Rattle.statement.specs.Statement.{isStatement, enclosingAt, told, statementReply};
+ghost use Rattle.statement.specs.inner.Search.{given};
 
 // The record that a search finds.
 pub enum Enclosing {
@@ -42,58 +43,51 @@ pub fn is_statement(kind: usize) -> bool
     (SELECT_STATEMENT <= kind) & (kind <= DESCRIBE_STATEMENT)
 }
 
-// What is found below a node, else the node itself if it is a statement.
-fn else_itself(inner: Enclosing, kind: usize, i: usize) -> Enclosing
-    requires { ⌜ i < wordLimit ⌝ }
-    ensures { λ r. ⌜ r ≡ orElse inner (itself kind i) ⌝ }
+// The record that a search gives: its number plus one, 0 for none.
+fn given(best: usize) -> Enclosing
+    requires { ⌜ best ≤ wordLimit ⌝ }
+    ensures { λ r. ⌜ r ≡ given best ⌝ }
 {
-    match inner {
-        Enclosing::Record(n) => Enclosing::Record(n),
-        Enclosing::Outside => {
-            if is_statement(kind) {
-                Enclosing::Record(i as u32)
-            } else {
-                Enclosing::Outside
-            }
-        }
-    }
-}
-
-// The first find among the children of the first record of the stretch s, whose number is base.
-fn first_find(s: &[u8], base: usize, offset: usize) -> Enclosing
-    requires { ⌜ base + count (now s) < wordLimit ⌝ }
-    ensures { λ r. ⌜ r ≡ firstFind offset (kids (records base (now (s .entry)))) ⌝ }
-{
-    let m = count_of(s);
-    if m == 0 {
+    if best == 0 {
         return Enclosing::Outside;
     }
-    let mut i = child_from(s, 1);
-    while i < m {
-        if is_holder(s, i, offset) {
-            let inner = first_find(rest_from(s, i), base + i, offset);
-            match else_itself(inner, kind_at(s, i), base + i) {
-                Enclosing::Record(n) => return Enclosing::Record(n),
-                Enclosing::Outside => i = child_from(s, i + 1),
-            }
-        } else {
-            i = child_from(s, i + 1);
-        }
-    }
-    Enclosing::Outside
+    Enclosing::Record((best - 1) as u32)
 }
 
-// The search from record 0.
+// The search from record 0, in one pass. `best` is the innermost statement so far, its number plus one, and `floor` how deep what stands in it is: the
+// first record that is shallower is past it, and then it is found. What stands in a node that does not hold the offset is passed over.
 pub fn find_enclosing_statement(table: &[u8], offset: usize) -> Enclosing
     requires { ⌜ (0 < count (now table)) × (count (now table) < wordLimit) ⌝ }
     ensures { λ r. ⌜ r ≡ enclosingAt (now (table .entry)) offset ⌝ }
 {
     let start = start_at(table, 0);
     let end = end_at(table, 0);
-    if spans(start, end, offset) {
-        return else_itself(first_find(table, 0, offset), kind_at(table, 0), 0);
+    if !spans(start, end, offset) {
+        return Enclosing::Outside;
     }
-    Enclosing::Outside
+    let m = count_of(table);
+    let mut best = 0;
+    if is_statement(kind_at(table, 0)) {
+        best = 1;
+    }
+    let mut floor = depth_at(table, 0) + 1;
+    let mut i = level_from(table, floor, 1);
+    while i < m {
+        let d = depth_at(table, i);
+        if d < floor {
+            return given(best);
+        }
+        if is_holder(table, i, offset) {
+            if is_statement(kind_at(table, i)) {
+                best = i + 1;
+                floor = d + 1;
+            }
+            i = level_from(table, d + 1, i + 1);
+        } else {
+            i = far_from(table, d, i + 1);
+        }
+    }
+    given(best)
 }
 
 // The reply that a search gives.
