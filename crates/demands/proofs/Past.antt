@@ -18,8 +18,8 @@ use Rattle.forest.proofs.Laws.{from-cons, run-same}
 use Rattle.forest.proofs.Orders.{admitted-ordered}
 use Rattle.forest.proofs.Scans.{sweep, sweep-fold, fold-tokens}
 use Rattle.tokens.specs.declared.function.Arguments.{Arguments}
-use Rattle.tokens.specs.declared.turns.Sought.{Sought}
-use Rattle.tokens.specs.declared.turns.Sought.the-variants.{LastToken, ArgumentIndex}
+use Rattle.tokens.specs.declared.sought.Sought.{Sought}
+use Rattle.tokens.specs.declared.sought.Sought.the-variants.{LastToken, ArgumentIndex}
 use Rattle.tokens.specs.LastToken.{lastTwo, dotted}
 use Rattle.tokens.specs.Function.{arguments}
 use Rattle.tokens.specs.inner.Turns.{Findings, nothingFound, swept}

@@ -20,8 +20,8 @@ use Rattle.forest.specs.inner.Ordered.{Ordered}
 use Rattle.lent.proofs.Cases.{lt-or-le}
 use Rattle.forest.proofs.Laws.{node-or-token}
 use Rattle.forest.proofs.Scans.{sweep}
-use Rattle.tokens.specs.declared.turns.Sought.{Sought}
-use Rattle.tokens.specs.declared.turns.Sought.the-variants.{LastToken, ArgumentIndex}
+use Rattle.tokens.specs.declared.sought.Sought.{Sought}
+use Rattle.tokens.specs.declared.sought.Sought.the-variants.{LastToken, ArgumentIndex}
 use Rattle.tokens.specs.inner.Turns.{Findings, countsFor, swept}
 use Rattle.readings.proofs.Sweeping.{seeking, Reads}
 

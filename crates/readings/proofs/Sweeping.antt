@@ -17,9 +17,9 @@ use Rattle.forest.proofs.Walking.{Sweeps, sweeps-token, sweeps-node}
 use Rattle.tokens.specs.declared.last_token.Name.{Name}
 use Rattle.tokens.specs.declared.last_token.Name.the-variants.{Nameless}
 use Rattle.tokens.specs.declared.last_token.LastTwo.{LastTwo}
-use Rattle.tokens.specs.declared.turns.Sought.{Sought}
-use Rattle.tokens.specs.declared.turns.Sought.the-variants.{LastToken, ArgumentIndex}
-use Rattle.tokens.specs.declared.turns.Swept.{Swept}
+use Rattle.tokens.specs.declared.sought.Sought.{Sought}
+use Rattle.tokens.specs.declared.sought.Sought.the-variants.{LastToken, ArgumentIndex}
+use Rattle.tokens.specs.declared.sought.Swept.{Swept}
 use Rattle.tokens.specs.LastToken.{named, reading, lastOr, init, lastTwo}
 use Rattle.tokens.specs.Function.{argued, arguments}
 use Rattle.tokens.specs.inner.Turns.{pushed, Findings, countsFor, entersFor, turned, nothingFound, swept, nameAt, tokenOf, meant, movedTo}

@@ -1,6 +1,6 @@
 // The index of a function's argument.
 use crate::sweep::sweep;
-use tokens::turns::Sought;
+use tokens::sought::Sought;
 ghost use mathlib.Core.Path.{_≡_};
 ghost use Prim.Native.Nat.{ℕ};
 ghost use Rattle.records.specs.Table.{records};

@@ -3,7 +3,7 @@ use crate::sweep::sweep;
 use tokens::last_token::LastTwo;
 use tokens::last_token::Name;
 use tokens::last_token::token_at;
-use tokens::turns::Sought;
+use tokens::sought::Sought;
 ghost use mathlib.Core.Path.{_≡_};
 ghost use Prim.Native.Nat.{ℕ, _-_, _≤_};
 ghost use Rattle.records.specs.Table.{count, records};

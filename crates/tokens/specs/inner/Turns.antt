@@ -15,9 +15,9 @@ use Rattle.tokens.specs.declared.last_token.LastTwo.{LastTwo}
 use Rattle.tokens.specs.declared.function.Arguments.{Arguments}
 use Rattle.tokens.specs.declared.function.Naming.{Naming}
 use Rattle.tokens.specs.declared.function.Naming.the-variants.{Open, Is}
-use Rattle.tokens.specs.declared.turns.Sought.{Sought}
-use Rattle.tokens.specs.declared.turns.Sought.the-variants.{LastToken, ArgumentIndex}
-use Rattle.tokens.specs.declared.turns.Swept.{Swept}
+use Rattle.tokens.specs.declared.sought.Sought.{Sought}
+use Rattle.tokens.specs.declared.sought.Sought.the-variants.{LastToken, ArgumentIndex}
+use Rattle.tokens.specs.declared.sought.Swept.{Swept}
 use Rattle.tokens.specs.LastToken.{counted, entered}
 use Rattle.tokens.specs.Function.{bareWordIn, opens, argued}
 
