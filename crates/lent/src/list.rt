@@ -17,7 +17,7 @@ pub enum Listed {
 }
 
 // How many bytes of a list are kept aside while it is walked: a list that fits is walked once, and one that does not a second time.
-pub const KEPT_BYTES: usize = 2048;
+pub const KEPT_BYTES: usize = 3072;
 
 // Writes an entry's numbers from byte `at` on, if out has room for all of them there, and returns where the next entry goes.
 pub fn put_entry(out: &mut [u8], at: usize, entry: &[usize]) -> usize
