@@ -1,4 +1,4 @@
-use Rattle.offers.proofs.ClimbLaws.{offered-copied, offered-filled, offered-short}
+use Rattle.offers.proofs.OfferedLists.{offered-copied, offered-filled, offered-short}
 use native.Mathlib.Omega.{arith}
 use borrow.Author.Needs.{needs}
 use Rattle.offers.proofs.with_names.list_offered.Statement.{statement}
