@@ -1,7 +1,7 @@
 use Rattle.demands.proofs.AtOnce.{at-once}
 use borrow.Author.Needs.{needs}
-use Rattle.demands.proofs.ask_at_once.Statement.{statement}
-use Rattle.demands.proofs.ask_at_once.Tie as tie
+use Rattle.at_once.proofs.ask_at_once.Statement.{statement}
+use Rattle.at_once.proofs.ask_at_once.Tie as tie
 
 pub ask-at-once-spec : {M : Type 1} → statement M
 ask-at-once-spec =
