@@ -1,7 +1,7 @@
 // The four lists of a root at once, each in a buffer of its own: how many entries they have, and their bytes.
 use collection::collection::Asked;
+use enclosing::enclosing::list_offered;
 use lent::list::Listed;
-use offers::with_names::list_offered;
 use rooms::rooms::Counts;
 use scope::scope::list_in;
 ghost use mathlib.Core.Path.{_≡_};

@@ -1,8 +1,8 @@
-use Rattle.offers.proofs.OfferedLists.{offered-copied, offered-filled, offered-short}
+use Rattle.enclosing.proofs.OfferedLists.{offered-copied, offered-filled, offered-short}
 use native.Mathlib.Omega.{arith}
 use borrow.Author.Needs.{needs}
-use Rattle.offers.proofs.with_names.list_offered.Statement.{statement}
-use Rattle.offers.proofs.with_names.list_offered.Tie as tie
+use Rattle.enclosing.proofs.enclosing.list_offered.Statement.{statement}
+use Rattle.enclosing.proofs.enclosing.list_offered.Tie as tie
 
 pub list-offered-spec : {M : Type 1} → statement M
 list-offered-spec =
