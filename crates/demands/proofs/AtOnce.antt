@@ -26,7 +26,8 @@ use Rattle.cursor.specs.CursorContext.{contextAt}
 use Rattle.cursor_root.specs.Root.{rootAt}
 use Rattle.offers.specs.WithNames.{withNamesAt}
 use Rattle.replies.specs.Reply.{packed, answered, listReply}
-use Rattle.everything.specs.Everything.{Buffers, buffers, everythingRow, roomRules, everythingBytes, everythingVerdict, everythingReply, Leaves}
+use Rattle.everything.specs.Everything.{Buffers, buffers, everythingRow, roomRules, everythingVerdict, everythingReply, Leaves}
+use Rattle.rooms.specs.Rooms.{everythingBytes}
 use Rattle.everything.proofs.EverythingLaws.{entry-size}
 use Rattle.demands.specs.declared.Question.{Question}
 use Rattle.demands.specs.declared.Question.the-variants.{CursorRoot}

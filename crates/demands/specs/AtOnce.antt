@@ -10,7 +10,8 @@ use lib.ListN.{length, take, drop}
 use Rattle.lent.specs.Numbers.{le4}
 use Rattle.contexts.specs.Context.{contextBytes}
 use Rattle.replies.specs.Reply.{half}
-use Rattle.everything.specs.Everything.{Buffers, everythingBytes}
+use Rattle.everything.specs.Everything.{Buffers}
+use Rattle.rooms.specs.Rooms.{everythingBytes}
 use Rattle.demands.specs.declared.Question.{Question}
 use Rattle.demands.specs.declared.Question.the-variants.{CursorContext, CursorRoot, WithNamesAt, TableAliasesAt, ColumnAliasesAt, TableRefsAt}
 use Rattle.demands.specs.Questions.{asked}

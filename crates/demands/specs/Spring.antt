@@ -34,9 +34,9 @@ use Rattle.cursor.specs.CursorContext.{lastRule, givenOr, contextAt}
 use Rattle.contexts.specs.Context.{rangeOf, coded, contextRow}
 use Rattle.cursor_root.specs.Root.{statementOr, rootOf, rootAt}
 use Rattle.forest.specs.Above.{aboveAmong}
-use Rattle.offers.specs.Enclosing.{queries, someQuery, beyond, statementAmong, lastRoot, rootsAmong, enclosingRoots}
+use Rattle.enclosing.specs.Enclosing.{queries, someQuery, beyond, statementAmong, lastRoot, rootsAmong, enclosingRoots}
 use Rattle.seen.specs.Seen.{items, itemsBefore, boundBy, ownSeen}
-use Rattle.offers.specs.WithNames.{seenOfAll, offeredIn}
+use Rattle.enclosing.specs.Offered.{seenOfAll, offeredIn}
 use Rattle.demands.specs.declared.Question.the-variants.{CursorContext, TableAliases, TableRefs, WithNamesAt, TableAliasesAt, ColumnAliasesAt, TableRefsAt}
 use Rattle.demands.specs.Questions.{Asked, asked, Said, number, rows, list, matter}
 use Rattle.records.specs.Ranges.{absentNumber}

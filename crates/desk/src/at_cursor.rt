@@ -2,13 +2,13 @@
 // it in one call.
 use contexts::context::ContextReply;
 use cursor::cursor_context::cursor_context;
+use cursor_replies::column_aliases_reply_at;
+use cursor_replies::table_aliases_reply_at;
+use cursor_replies::table_refs_reply_at;
+use cursor_replies::with_names_reply_at;
 use cursor_root::root::cursor_root;
 use cursors::cursors::cursor_contexts;
 use everything::everything::everything_at;
-use offers::offers::column_aliases_at;
-use offers::offers::table_aliases_at;
-use offers::offers::table_refs_at;
-use offers::with_names::with_names_at;
 use replies::reply::list_context;
 use replies::reply::list_reply;
 use replies::reply::packed;
@@ -60,7 +60,7 @@ pub extern "C" fn desk_with_names_at(
     ensures { λ r. ⌜ AnswersC (rules (now (table .entry)) (length (now (source .entry))) 0) bindingRow
         (withNamesAt (now (source .entry)) (now (table .entry)) offset) (now (out .entry)) r (now (out .exit)) ⌝ }
 {
-    list_reply(with_names_at(table, source, offset as usize, out))
+    with_names_reply_at(table, source, offset, out)
 }
 
 // The table aliases offered at the offset. High half of an answer: the entries written.
@@ -74,7 +74,7 @@ pub extern "C" fn desk_table_aliases_at(
     ensures { λ r. ⌜ AnswersC (rules (now (table .entry)) (length (now (source .entry))) 0) bindingRow
         (tableAliases (now (source .entry)) (now (table .entry)) (rootAt (now (table .entry)) offset)) (now (out .entry)) r (now (out .exit)) ⌝ }
 {
-    list_reply(table_aliases_at(table, source, offset as usize, out))
+    table_aliases_reply_at(table, source, offset, out)
 }
 
 // The column aliases offered at the offset. High half of an answer: the entries written.
@@ -88,7 +88,7 @@ pub extern "C" fn desk_column_aliases_at(
     ensures { λ r. ⌜ AnswersC (rules (now (table .entry)) (length (now (source .entry))) 0) bindingRow
         (columnAliases (now (source .entry)) (now (table .entry)) (rootAt (now (table .entry)) offset)) (now (out .entry)) r (now (out .exit)) ⌝ }
 {
-    list_reply(column_aliases_at(table, source, offset as usize, out))
+    column_aliases_reply_at(table, source, offset, out)
 }
 
 // The table references offered at the offset. High half of an answer: the entries written.
@@ -102,7 +102,7 @@ pub extern "C" fn desk_table_refs_at(
     ensures { λ r. ⌜ AnswersC (rules (now (table .entry)) (length (now (source .entry))) 0) referenceRow
         (tableRefs (now (source .entry)) (now (table .entry)) (rootAt (now (table .entry)) offset)) (now (out .entry)) r (now (out .exit)) ⌝ }
 {
-    list_reply(table_refs_at(table, source, offset as usize, out))
+    table_refs_reply_at(table, source, offset, out)
 }
 
 // What is being typed at the offset, as a list of one entry. High half of an answer: 1.

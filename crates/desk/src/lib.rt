@@ -8,10 +8,10 @@ use hint::hint::bracket_hint;
 use replies::reply::hint_reply;
 use replies::reply::list_reply;
 use replies::reply::verdict_reply;
-use scope::scope::column_aliases;
-use scope::scope::table_aliases;
-use scope::scope::table_refs;
-use scope::scope::with_names;
+use root_replies::column_aliases_reply;
+use root_replies::table_aliases_reply;
+use root_replies::table_refs_reply;
+use root_replies::with_names_reply;
 use scope::semantic_tokens::token_classes;
 use table::check::check;
 ghost use mathlib.Core.Path.{_≡_};
@@ -75,7 +75,7 @@ pub extern "C" fn desk_with_names(table: &[u8], source: &[u8], root: u32, out: &
     ensures { λ r. ⌜ AnswersC (rootRules (now (table .entry)) (length (now (source .entry))) root) bindingRow
         (withNames (now (source .entry)) (now (table .entry)) root) (now (out .entry)) r (now (out .exit)) ⌝ }
 {
-    list_reply(with_names(table, source, root as usize, out))
+    with_names_reply(table, source, root, out)
 }
 
 // The table aliases of a root. High half of an answer: the entries written.
@@ -84,7 +84,7 @@ pub extern "C" fn desk_table_aliases(table: &[u8], source: &[u8], root: u32, out
     ensures { λ r. ⌜ AnswersC (rootRules (now (table .entry)) (length (now (source .entry))) root) bindingRow
         (tableAliases (now (source .entry)) (now (table .entry)) root) (now (out .entry)) r (now (out .exit)) ⌝ }
 {
-    list_reply(table_aliases(table, source, root as usize, out))
+    table_aliases_reply(table, source, root, out)
 }
 
 // The column aliases of a root. High half of an answer: the entries written.
@@ -93,7 +93,7 @@ pub extern "C" fn desk_column_aliases(table: &[u8], source: &[u8], root: u32, ou
     ensures { λ r. ⌜ AnswersC (rootRules (now (table .entry)) (length (now (source .entry))) root) bindingRow
         (columnAliases (now (source .entry)) (now (table .entry)) root) (now (out .entry)) r (now (out .exit)) ⌝ }
 {
-    list_reply(column_aliases(table, source, root as usize, out))
+    column_aliases_reply(table, source, root, out)
 }
 
 // The table references of a root. High half of an answer: the entries written.
@@ -102,7 +102,7 @@ pub extern "C" fn desk_table_refs(table: &[u8], source: &[u8], root: u32, out: &
     ensures { λ r. ⌜ AnswersC (rootRules (now (table .entry)) (length (now (source .entry))) root) referenceRow
         (tableRefs (now (source .entry)) (now (table .entry)) root) (now (out .entry)) r (now (out .exit)) ⌝ }
 {
-    list_reply(table_refs(table, source, root as usize, out))
+    table_refs_reply(table, source, root, out)
 }
 
 // The records above a record of any kind, nearest first. High half of an answer: the entries written.

@@ -1,95 +1,37 @@
 -- Everything at a cursor: from the counts and the rooms to the verdict, and from the lists with room to the buffers.
---     counted, counts-are       how many entries there are, by the replies in a buffer of no bytes
---     short-.., all-rooms       which has no room first
 --     everything-refused, ..    the call: refused by the table's rules or for want of room; given
 -- Assumes nothing.
-use Prim.Native.Nat.{ℕ, _*_, _≤_, _<_}
-use mathlib.Core.Path.{_≡_, refl, sym, ap, _∙_}
-use mathlib.Core.Bool.{Bool, true, false, cond}
+use Prim.Native.Nat.{ℕ}
+use mathlib.Core.Path.{_≡_, refl, sym, _∙_}
+use mathlib.Core.Bool.{false}
 use mathlib.Core.List.{List, [], _∷_, _++_}
-use lib.ListN.{length, length-map, drop}
+use lib.ListN.{length, drop}
 use lib.Dec.{ltb}
-use borrow.Author.Tests.{lt-ltb, le-ltb, ltb-false}
+use borrow.Author.Tests.{ltb-false}
 use native.Mathlib.Omega.{arith}
 use Rattle.lent.specs.declared.verdict.Verdict.{Verdict}
 use Rattle.lent.specs.declared.verdict.Verdict.the-variants.{Admitted, Refused}
 use Rattle.lent.specs.declared.list.Listed.{Listed}
 use Rattle.lent.specs.declared.list.Listed.the-variants.{Entries, Refused as Denied}
 use Rattle.lent.specs.Verdicts.{Rule, first}
-use Rattle.lent.specs.Lists.{rowBytes, listBytes, roomRule, reply, buffer, listed, lent, put}
+use Rattle.lent.specs.Lists.{rowBytes, listBytes, roomRule, reply, buffer, lent, put}
 use Rattle.lent.proofs.Verdicts.{then-refused, then-admitted, unbroken}
 use Rattle.lent.proofs.Writes.{length-wide, written-one, written-whole}
 use Rattle.table.specs.Rules.{rules}
 use Rattle.names.specs.Bindings.{bindingRow, bindingBytes}
 use Rattle.tables.specs.Tables.{referenceRow, referenceBytes}
-use Rattle.collection.specs.declared.collection.Asked.the-variants.{TableAliases, ColumnAliases, TableRefs}
 use Rattle.scope.specs.Scope.{tableAliases, columnAliases, tableRefs}
-use Rattle.scope.specs.inner.Rows.{rowsAt}
-use Rattle.scope.proofs.Lists.{alias-rows, column-rows, reference-rows}
 use Rattle.contexts.specs.Context.{contextRow}
 use Rattle.cursor.specs.CursorContext.{contextAt}
 use Rattle.cursor_root.specs.Root.{rootAt}
-use Rattle.offers.specs.WithNames.{offeredIn, withNamesAt}
-use Rattle.everything.specs.declared.everything.Counts.{Counts}
-use Rattle.everything.specs.Everything.{Buffers, buffers, everythingRow, everythingBytes, roomRules, everythingVerdict, Everything}
-use Rattle.everything.specs.inner.Counts.{entriesIn, countsIn, countedRow, roomsFor}
-
--- ---- how many entries there are
-
-pub counted : {E : Type 0} (row : E → List ℕ) (es : List E) (out : List ℕ) {r : Listed} {n : ℕ} → n ≡ entriesIn r → r ≡ listed [] row es out → n ≡ length es
-unfolding listed reply entriesIn
-counted row es out e q = e ∙ rw q (go (ltb (length out) (length (listBytes row es))))
-  where
-    go : (b : Bool) → entriesIn (reply (cond b (Refused 7 (length es)) Admitted) (length es)) ≡ length es
-    go true = refl
-    go false = refl
-
-module _ (src t : List ℕ) (n : ℕ) where
-  pub counts-are : {w a c r : ℕ} → w ≡ length (offeredIn src t n) → a ≡ length (rowsAt TableAliases src t n) → c ≡ length (rowsAt ColumnAliases src t n)
-      → r ≡ length (rowsAt TableRefs src t n) → record { names = w; aliases = a; columns = c; refs = r } ≡ countsIn src t n
-  counts-are w a c r =
-      rw (
-        w,
-        a ∙ ap length (alias-rows src t n) ∙ length-map (tableAliases src t n) bindingRow,
-        c ∙ ap length (column-rows src t n) ∙ length-map (columnAliases src t n) bindingRow,
-        r ∙ ap length (reference-rows src t n) ∙ length-map (tableRefs src t n) referenceRow,
-      )
-
--- ---- which has no room first
-
-module _ (c : Counts) (e w a b r : ℕ) where
-  pub short-entry : e < everythingBytes → Refused 7 1 ≡ first (roomsFor c e w a b r)
-  unfolding roomsFor
-  short-entry h = rw (lt-ltb e everythingBytes h)
-
-  module _ (he : everythingBytes ≤ e) where
-    pub short-names : w < c .names * bindingBytes → Refused 7 (c .names) ≡ first (roomsFor c e w a b r)
-    unfolding roomsFor
-    short-names h = rw (le-ltb e everythingBytes he, lt-ltb w (c .names * bindingBytes) h)
-
-    module _ (hw : c .names * bindingBytes ≤ w) where
-      pub short-aliases : a < c .aliases * bindingBytes → Refused 7 (c .aliases) ≡ first (roomsFor c e w a b r)
-      unfolding roomsFor
-      short-aliases h = rw (le-ltb e everythingBytes he, le-ltb w (c .names * bindingBytes) hw, lt-ltb a (c .aliases * bindingBytes) h)
-
-      module _ (ha : c .aliases * bindingBytes ≤ a) where
-        pub short-columns : b < c .columns * bindingBytes → Refused 7 (c .columns) ≡ first (roomsFor c e w a b r)
-        unfolding roomsFor
-        short-columns h =
-            rw (le-ltb e everythingBytes he, le-ltb w (c .names * bindingBytes) hw, le-ltb a (c .aliases * bindingBytes) ha, lt-ltb b (c .columns * bindingBytes) h)
-
-        module _ (hb : c .columns * bindingBytes ≤ b) where
-          pub short-refs : r < c .refs * referenceBytes → Refused 7 (c .refs) ≡ first (roomsFor c e w a b r)
-          unfolding roomsFor
-          short-refs h =
-              rw (le-ltb e everythingBytes he, le-ltb w (c .names * bindingBytes) hw, le-ltb a (c .aliases * bindingBytes) ha, le-ltb b (c .columns * bindingBytes) hb, lt-ltb r (c .refs * referenceBytes) h)
-
-          pub all-rooms : c .refs * referenceBytes ≤ r → Admitted ≡ first (roomsFor c e w a b r)
-          unfolding roomsFor
-          all-rooms h =
-              rw (le-ltb e everythingBytes he, le-ltb w (c .names * bindingBytes) hw, le-ltb a (c .aliases * bindingBytes) ha, le-ltb b (c .columns * bindingBytes) hb, le-ltb r (c .refs * referenceBytes) h)
-
--- ---- the call
+use Rattle.enclosing.specs.Offered.{offeredIn}
+use Rattle.offers.specs.WithNames.{withNamesAt}
+use Rattle.rooms.specs.declared.rooms.Counts.{Counts}
+use Rattle.rooms.specs.Rooms.{everythingBytes}
+use Rattle.rooms.specs.inner.Counted.{roomsFor}
+use Rattle.four_lists.specs.inner.Counts.{countsIn}
+use Rattle.everything.specs.Everything.{Buffers, buffers, everythingRow, roomRules, everythingVerdict, Everything}
+use Rattle.everything.specs.inner.Counted.{countedRow}
 
 -- a list that has room
 roomy : {E : Type 0} (row : E → List ℕ) (es : List E) (out : List ℕ) → ltb (length out) (length (listBytes row es)) ≡ false

@@ -1,13 +1,12 @@
 -- Everything at a cursor in one call: the context, the root and the four lists, each as its own question gives it.
 -- src is the source's bytes, t the table's, o the offset.
 -- Definitions only.
-use Prim.Native.Nat.{ℕ, _*_}
+use Prim.Native.Nat.{ℕ}
 use mathlib.Core.Path.{_≡_}
 use mathlib.Core.List.{List, [], _∷_, _++_}
 use lib.ListN.{length, drop}
 use Rattle.lent.specs.declared.verdict.Verdict.{Verdict}
 use Rattle.lent.specs.declared.list.Listed.{Listed}
-use Rattle.lent.specs.Numbers.{numberBytes}
 use Rattle.lent.specs.Verdicts.{Rule, first}
 use Rattle.lent.specs.Lists.{listBytes, roomRule, reply, buffer}
 use Rattle.table.specs.Rules.{rules}
@@ -41,10 +40,6 @@ everythingRow src t o =
     ∷ length (columnAliases src t (rootAt t o))
     ∷ length (tableRefs src t (rootAt t o))
     ∷ []
-
--- how many bytes it takes: nine numbers
-abbrev pub everythingBytes : ℕ
-everythingBytes = 9 * numberBytes
 
 -- 7, of which the first that has no room gives the detail: the entry, then each list
 unfoldable pub roomRules : List ℕ → List ℕ → ℕ → Buffers → List Rule

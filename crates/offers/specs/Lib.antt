@@ -1,4 +1,2 @@
-pub mod Enclosing
 pub mod WithNames
-pub mod inner
 pub mod worked

@@ -22,9 +22,9 @@ use Rattle.scope.specs.Scope.{withNames}
 use Rattle.path.specs.Path.{isSubquery}
 use Rattle.statement.specs.Statement.{isStatement}
 use Rattle.forest.specs.Above.{standsBelow, aboveAmong, above}
-use Rattle.offers.specs.Enclosing.{queries, someQuery, beyond, statementAmong, lastRoot, rootsAmong, enclosingRoots}
+use Rattle.enclosing.specs.Enclosing.{queries, someQuery, beyond, statementAmong, lastRoot, rootsAmong, enclosingRoots}
 use Rattle.seen.specs.Seen.{Item, items, itemsBefore, boundBy, ownSeen, seenOf}
-use Rattle.offers.specs.WithNames.{seenOfAll, offeredIn}
+use Rattle.enclosing.specs.Offered.{seenOfAll, offeredIn}
 use Rattle.roots.specs.Nearest.{SeenFrom, WithNamesFrom}
 use Rattle.roots.proofs.Covers.{stands-below, Cover, inside-cover, Apart, apart-here, apart-in, nearest-in}
 use Rattle.roots.proofs.Nearest.{in-none, in-entry, not-subquery, clause-of}

@@ -20,9 +20,9 @@ use Rattle.collection.specs.Collection.{ownWith, ownColumns, ownTables}
 use Rattle.scope.specs.Scope.{withNames}
 use Rattle.path.specs.Path.{pathAt, isSubquery}
 use Rattle.forest.specs.Above.{standsBelow}
-use Rattle.offers.specs.Enclosing.{enclosingRoots}
+use Rattle.enclosing.specs.Enclosing.{enclosingRoots}
 use Rattle.seen.specs.Seen.{Item, items}
-use Rattle.offers.specs.WithNames.{offeredIn}
+use Rattle.enclosing.specs.Offered.{offeredIn}
 
 -- ---- the nearest root
 

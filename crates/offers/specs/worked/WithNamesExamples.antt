@@ -15,9 +15,9 @@ use Rattle.names.specs.Names.{isAs, isName, direct, unquoted, nameOf, binding, 
 use Rattle.names.specs.Bindings.{entry, boundIn}
 use Rattle.collection.specs.Collection.{nodeGives, collected, collection, ownWith}
 use Rattle.forest.specs.Above.{aboveAmong}
-use Rattle.offers.specs.Enclosing.{queries, someQuery, beyond, statementAmong, lastRoot, rootsAmong, enclosingRoots}
+use Rattle.enclosing.specs.Enclosing.{queries, someQuery, beyond, statementAmong, lastRoot, rootsAmong, enclosingRoots}
 use Rattle.seen.specs.Seen.{items, itemsBefore, boundBy, ownSeen}
-use Rattle.offers.specs.WithNames.{seenOfAll, offeredIn}
+use Rattle.enclosing.specs.Offered.{seenOfAll, offeredIn}
 
 -- the names by their place: a at 0, b at 1, c at 2, i at 3, o at 4
 abbrev source : List ℕ

@@ -1,0 +1,3 @@
+pub mod ClimbLaws
+pub mod Climbs
+pub mod OfferedLists
