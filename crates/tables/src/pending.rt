@@ -1,9 +1,11 @@
 // The pending reference of a table reading.
 use forest::stretch::child_from;
+use forest::stretch::stretch_of;
 use lent::number::NUMBER_BYTES;
 use names::names::Bound;
 use names::names::NameRanges;
 use names::names::bound_name;
+use names::names::extract_alias_name;
 use names::names::is_part;
 use names::names::name_of;
 use names::names::no_name;
@@ -17,6 +19,7 @@ ghost use Rattle.conditions.specs.Conditions.{mostRecords};
 ghost use Rattle.names.specs.Names.{isPart, direct};
 ghost use Rattle.tables.specs.Tables.{fresh, aliased};
 ghost use Rattle.tables.specs.inner.Rows.{pends};
+ghost use Rattle.tables.specs.inner.Waiting.{pendingAt, aliasAfter};
 
 // How many bytes the entry of a reference takes: thirteen numbers, its record and two ranges of each of its three names.
 pub const REFERENCE_BYTES: usize = 13 * NUMBER_BYTES;
@@ -36,7 +39,7 @@ pub enum Pending {
 }
 
 // The reference of a table name, the first record of the stretch s: of one part or two, else none.
-pub fn extract_table_identifier(s: &[u8], base: usize, source: &[u8]) -> Pending
+fn extract_table_identifier(s: &[u8], base: usize, source: &[u8]) -> Pending
     requires { ⌜ (0 < count (now s)) × (base + count (now s) ≤ mostRecords) ⌝ }
     ensures { λ r. ⌜ r ≡ fresh (now (source .entry)) base (direct isPart (kids (records base (now (s .entry))))) ⌝ }
 {
@@ -79,7 +82,7 @@ fn set_alias(mut t: TableRef, alias: NameRanges) -> TableRef
 }
 
 // The pending reference after an alias.
-pub fn with_alias(p: Pending, b: Bound) -> Pending
+fn with_alias(p: Pending, b: Bound) -> Pending
     ensures { λ r. ⌜ r ≡ aliased p b ⌝ }
 {
     match p {
@@ -91,6 +94,36 @@ pub fn with_alias(p: Pending, b: Bound) -> Pending
                 Pending::Held(set_alias(t, name))
             }
         },
+    }
+}
+
+// The pending reference of a reading, by records of the stretch s that is read: the table name, and the alias that is set; 0 stands for none.
+pub fn pending_of(s: &[u8], base: usize, source: &[u8], name: usize, alias: usize) -> Pending
+    requires { ⌜ (name < count (now s)) × (alias < count (now s)) × (base + count (now s) ≤ mostRecords) ⌝ }
+    ensures { λ r. ⌜ r ≡ pendingAt (now (source .entry)) base (now (s .entry)) name alias ⌝ }
+{
+    if name == 0 {
+        return Pending::Nothing;
+    }
+    let reference = extract_table_identifier(stretch_of(s, name), base + name, source);
+    if alias == 0 {
+        return reference;
+    }
+    let bound = extract_alias_name(stretch_of(s, alias), base + alias, source);
+    with_alias(reference, bound)
+}
+
+// The alias that is set after that at record i: it, unless it has no name and another is set.
+pub fn alias_after(s: &[u8], base: usize, source: &[u8], alias: usize, i: usize) -> usize
+    requires { ⌜ (alias < count (now s)) × (i < count (now s)) × (base + count (now s) ≤ mostRecords) ⌝ }
+    ensures { λ r. ⌜ (r ≡ aliasAfter (now (source .entry)) base (now (s .entry)) alias i) × (r < count (now (s .entry))) ⌝ }
+{
+    if alias == 0 {
+        return i;
+    }
+    match extract_alias_name(stretch_of(s, i), base + i, source) {
+        Bound::Unnamed => alias,
+        Bound::Named(_) => i,
     }
 }
 

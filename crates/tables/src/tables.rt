@@ -1,14 +1,14 @@
 // The table reading: the references and the aliases of FROM and JOIN.
 use crate::pending::Pending;
 use crate::pending::TableRef;
-use crate::pending::extract_table_identifier;
+use crate::pending::alias_after;
 use crate::pending::is_pending;
-use crate::pending::with_alias;
+use crate::pending::pending_of;
 use forest::nodes::node_from;
+use forest::stretch::stretch_end;
 use forest::stretch::stretch_of;
 use lent::list::put_entry;
 use names::bindings::put_bound;
-use names::names::Bound;
 use names::names::extract_alias_name;
 use records::kinds::JOIN_CLAUSE;
 use records::kinds::TABLE_ALIAS;
@@ -24,6 +24,7 @@ ghost use Rattle.conditions.specs.Conditions.{mostRecords};
 ghost use Rattle.lent.specs.Lists.{farthest, Written};
 ghost use Rattle.tables.specs.Tables.{handOn, listAlias, tableReading, referenceBytes, referenceRow};
 ghost use Rattle.tables.specs.inner.Rows.{asRow, rowsOf, readBytes};
+ghost use Rattle.tables.specs.inner.Waiting.{pendingAt, boundAt};
 
 // What a table reading writes.
 pub enum Reads {
@@ -54,16 +55,28 @@ fn put_reference(t: TableRef, out: &mut [u8], at: usize) -> usize
     put_entry(out, at, &row)
 }
 
-// Writes an alias that is set, if aliases are read, and returns where the next entry goes.
-fn put_alias(reads: Reads, p: Pending, b: Bound, out: &mut [u8], at: usize) -> usize
-    requires { ⌜ at < farthest ⌝ }
-    ensures { λ r. ⌜ Written asRow (listAlias (rowsOf reads) p b) (now (out .entry)) at (now (out .exit)) r × (r ≤ at + referenceBytes) ⌝ }
+// Writes the alias at record i, if aliases are read and a reference is pending, and returns where the next entry goes.
+fn put_alias(
+    reads: Reads,
+    s: &[u8],
+    base: usize,
+    source: &[u8],
+    name: usize,
+    alias: usize,
+    i: usize,
+    out: &mut [u8],
+    at: usize,
+) -> usize
+    requires { ⌜ (name < count (now s)) × (alias < count (now s)) × (i < count (now s)) × (base + count (now s) ≤ mostRecords) × (at < farthest) ⌝ }
+    ensures { λ r. ⌜ Written asRow (listAlias (rowsOf reads) (pendingAt (now (source .entry)) base (now (s .entry)) name alias)
+        (boundAt (now (source .entry)) base (now (s .entry)) i)) (now (out .entry)) at (now (out .exit)) r × (r ≤ at + referenceBytes) ⌝ }
 {
     match reads {
         Reads::References => at,
         Reads::Aliases => {
-            if is_pending(p) {
-                put_bound(b, out, at)
+            if is_pending(pending_of(s, base, source, name, alias)) {
+                let bound = extract_alias_name(stretch_of(s, i), base + i, source);
+                put_bound(bound, out, at)
             } else {
                 at
             }
@@ -72,13 +85,23 @@ fn put_alias(reads: Reads, p: Pending, b: Bound, out: &mut [u8], at: usize) -> u
 }
 
 // Writes the pending reference, if there is one and references are read, and returns where the next entry goes.
-fn hand_on(reads: Reads, p: Pending, out: &mut [u8], at: usize) -> usize
-    requires { ⌜ at < farthest ⌝ }
-    ensures { λ r. ⌜ Written asRow (handOn (rowsOf reads) p) (now (out .entry)) at (now (out .exit)) r × (r ≤ at + referenceBytes) ⌝ }
+fn hand_on(
+    reads: Reads,
+    s: &[u8],
+    base: usize,
+    source: &[u8],
+    name: usize,
+    alias: usize,
+    out: &mut [u8],
+    at: usize,
+) -> usize
+    requires { ⌜ (name < count (now s)) × (alias < count (now s)) × (base + count (now s) ≤ mostRecords) × (at < farthest) ⌝ }
+    ensures { λ r. ⌜ Written asRow (handOn (rowsOf reads) (pendingAt (now (source .entry)) base (now (s .entry)) name alias))
+        (now (out .entry)) at (now (out .exit)) r × (r ≤ at + referenceBytes) ⌝ }
 {
     match reads {
         Reads::Aliases => at,
-        Reads::References => match p {
+        Reads::References => match pending_of(s, base, source, name, alias) {
             Pending::Nothing => at,
             Pending::Held(t) => put_reference(t, out, at),
         },
@@ -86,7 +109,7 @@ fn hand_on(reads: Reads, p: Pending, out: &mut [u8], at: usize) -> usize
 }
 
 // The table reading of the children of the stretch's first record, whose number is base: writes what is read into out from byte `at` on,
-// and returns where the next entry goes.
+// and returns where the next entry goes. The pending reference is carried by the records that make it: whole, it would stand in every call's frame.
 pub fn collect_table_refs(
     reads: Reads,
     s: &[u8],
@@ -102,34 +125,33 @@ pub fn collect_table_refs(
 {
     let m = count_of(s);
     let mut next = at;
-    let mut pending = Pending::Nothing;
+    let mut name = 0;
+    let mut alias = 0;
     let mut i = node_from(s, 1);
     while i < m {
         let kind = kind_at(s, i);
         if kind == TABLE_IDENTIFIER {
-            let part = stretch_of(s, i);
-            next = hand_on(reads, pending, out, next);
-            pending = extract_table_identifier(part, base + i, source);
-            i = node_from(s, i + count_of(part));
+            next = hand_on(reads, s, base, source, name, alias, out, next);
+            name = i;
+            alias = 0;
+            i = node_from(s, stretch_end(s, i));
         } else if kind == TABLE_ALIAS {
-            let part = stretch_of(s, i);
-            let bound = extract_alias_name(part, base + i, source);
-            next = put_alias(reads, pending, bound, out, next);
-            pending = with_alias(pending, bound);
-            i = node_from(s, i + count_of(part));
+            next = put_alias(reads, s, base, source, name, alias, i, out, next);
+            alias = alias_after(s, base, source, alias, i);
+            i = node_from(s, stretch_end(s, i));
         } else if kind == TABLE_EXPRESSION {
             let part = stretch_of(s, i);
             next = collect_table_refs(reads, part, base + i, source, out, next);
             i = node_from(s, i + count_of(part));
         } else if kind == JOIN_CLAUSE {
             let part = stretch_of(s, i);
-            next = hand_on(reads, pending, out, next);
-            pending = Pending::Nothing;
+            next = hand_on(reads, s, base, source, name, alias, out, next);
+            name = 0;
             next = collect_table_refs(reads, part, base + i, source, out, next);
             i = node_from(s, i + count_of(part));
         } else {
             i = node_from(s, i + 1);
         }
     }
-    hand_on(reads, pending, out, next)
+    hand_on(reads, s, base, source, name, alias, out, next)
 }

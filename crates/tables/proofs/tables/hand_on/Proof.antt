@@ -13,10 +13,11 @@ hand-on-spec =
     (tie.spec
     (λ c. search needs)  -- enum-told
     (λ c. search needs)  -- enum-told-2
+    (λ c κs. omega arith)  -- pending-of-requires
     (λ c. search needs)  -- enum-told-3
-    (λ c. search needs)  -- enum-known-p
-    (λ c κs. search needs)  -- put-reference-requires
+    (λ c. search needs)  -- enum-known-t
+    (λ c κs. omega arith)  -- put-reference-requires
     (λ c. (rw (c .enum-told .given .1, hand-none _) (written-none asRow _ _), omega arith))  -- returns
-    (λ c. (rw (c .enum-told3 .given .1, hand-nothing _) (written-none asRow _ _), omega arith))  -- returns-2
+    (λ c. (rw (← c .before .before .pending-of .ensures, c .enum-told3 .given .1, hand-nothing _) (written-none asRow _ _), omega arith))  -- returns-2
     (λ c. search needs)  -- same-length
-    (λ c. (rw (c .before .before .before .before .before .before .before .enum-told2 .given .1, c .before .before .before .before .before .p .given .1, hand-held _) (written-map referenceRow _ (c .before .before .put-reference .ensures .0)), omega arith)))  -- returns-3
+    (λ c. (rw (c .before .before .before .before .before .before .before .before .enum-told2 .given .1, ← c .before .before .before .before .before .before .before .pending-of .ensures, c .before .before .before .before .before .t .given .1, hand-held _) (written-map referenceRow _ (c .before .before .put-reference .ensures .0)), omega arith)))  -- returns-3
