@@ -1,2 +1,3 @@
 pub mod ClimbLaws
 pub mod Climbs
+pub mod Fitting
