@@ -1,23 +1,25 @@
--- On an admitted table every opener that is left has a number below 4,096: in the list of openers, and in a hint.
---     openers-fit, hint-within
+-- On an admitted table every opener that is left has a number below 4,096: in the list of openers, and in a hint; and no more are left than there are records.
+--     openers-fit, hint-within, openers-few
 -- Assumes nothing.
-use Prim.Native.Nat.{ℕ, _<_}
-use mathlib.Core.Path.{_≡_}
+use Prim.Native.Nat.{ℕ, suc, _+_, _≤_, _<_}
+use mathlib.Core.Path.{_≡_, refl, sym}
 use mathlib.Core.Bool.{Bool, true, false, cond}
 use mathlib.Core.List.{List, [], _∷_, map, reverse, reverseAux}
 use native.Mathlib.Omega.{arith}
 use lib.Dec.{eqb}
+use lib.ListN.{length, length-map, length-reverse}
 use Rattle.lent.specs.declared.verdict.Verdict.the-variants.{Admitted}
 use Rattle.lent.specs.Text.{bytesOf}
 use Rattle.lent.specs.Fit32.{Fit32, AllFit32}
 use Rattle.records.specs.declared.record.Rec.{Rec}
 use Rattle.records.specs.Kinds.{openingRound, openingSquare, openingCurly}
-use Rattle.records.specs.Table.{records}
+use Rattle.records.specs.Table.{count, records}
 use Rattle.conditions.specs.Conditions.{mostRecords}
 use Rattle.table.specs.Rules.{verdict}
 use Rattle.forest.specs.Forest.{Forest, nil, token, node, kids}
-use Rattle.forest.specs.Limits.{Limited}
-use Rattle.forest.proofs.Limits.{admitted-limited}
+use Rattle.forest.specs.Limits.{Limited, size}
+use Rattle.forest.proofs.Limits.{admitted-limited, inside-size}
+use Rattle.forest.proofs.Sense.{admitted-tidy}
 use Rattle.brackets.specs.declared.bracket_matching.Hint.{Hint}
 use Rattle.brackets.specs.declared.bracket_matching.Hint.the-variants.{Opener, NoOpener}
 use Rattle.brackets.specs.Brackets.{isOpener, isCloser, fits, closed, stackStep, left, stackLeft, indexOf, openersLeft, openerRow, holding, lastOpener, hintOf}
@@ -70,6 +72,34 @@ unfolding lastOpener Few NamesFew
 last-few k [] w = tt
 last-few k (o ∷ stack) w = names-chosen (eqb (o .kind) k) (Opener (o .index)) (lastOpener k stack) (w .0) (last-few k stack (w .1))
 
+-- ---- how many
+
+closed-less : (stack : List Rec) (c : ℕ) → length (closed stack c) ≤ length stack
+unfolding closed
+closed-less [] c = omega arith
+closed-less (o ∷ stack) c = go (fits (o .kind) c) refl
+  where
+    go : (b : Bool) → fits (o .kind) c ≡ b → length (cond (fits (o .kind) c) stack (o ∷ stack)) ≤ suc (length stack)
+    go true e = rw e (omega arith)
+    go false e = rw e (omega arith)
+
+stepped-one : (stack : List Rec) (r : Rec) → length (stackStep stack r) ≤ suc (length stack)
+unfolding stackStep
+stepped-one stack r = go (isOpener (r .kind)) refl (isCloser (r .kind)) refl
+  where
+    go : (b : Bool) → isOpener (r .kind) ≡ b → (d : Bool) → isCloser (r .kind) ≡ d → length (stackStep stack r) ≤ suc (length stack)
+    go true e d q = rw e (omega arith)
+    go false e true q = rw (e, q) (omega (arith, closed-less stack (r .kind)))
+    go false e false q = rw (e, q) (omega arith)
+
+left-below : (stack : List Rec) (f : Forest) → length (left stack f) ≤ length stack + size f
+unfolding left size
+left-below stack nil = omega arith
+left-below stack (token r rest) = omega (arith, left-below (stackStep stack r) rest, stepped-one stack r)
+left-below stack (node r below rest) = omega (arith, left-below (left stack below) rest, left-below stack below)
+
+-- ---- of an admitted table
+
 module _ (t : List ℕ) (n m : ℕ) (a : Admitted ≡ verdict t n m) where
   stack-few : Few (stackLeft t)
   stack-few = left-few [] (kids (records 0 t)) (unfold Few in tt) (admitted-limited t n m a 0)
@@ -87,3 +117,7 @@ module _ (t : List ℕ) (n m : ℕ) (a : Admitted ≡ verdict t n m) where
   pub hint-within : (message : List ℕ) {i : ℕ} → hintOf message (stackLeft t) ≡ Opener i → i < mostRecords
   unfolding NamesFew
   hint-within message e = rw e at (hint-few message)
+
+  pub openers-few : length (openersLeft t) ≤ count t
+  openers-few =
+      omega (arith, length-map (reverse (stackLeft t)) indexOf, length-reverse (stackLeft t), left-below [] (kids (records 0 t)), inside-size t 0 (admitted-tidy t n m (sym a) .some))

@@ -79,7 +79,7 @@ module _ (src t os : List ℕ) where
 
   -- ---- the list: an entry for each offset
 
-  many : (i n : ℕ) → length (offsetsFrom os i n) ≡ n
+  pub many : (i n : ℕ) → length (offsetsFrom os i n) ≡ n
   unfolding offsetsFrom
   many i zero = refl
   many i (suc n) = ap suc (many (i + 1) n)

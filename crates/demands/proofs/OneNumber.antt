@@ -59,4 +59,5 @@ one-number =
       statements = λ a a′ r o o′ x y. apart .statements _ _ _ _ _ _ (sym (statement-is a x) ∙ statement-is a′ y);
       roots = λ a a′ r o o′ x y. apart .roots _ _ _ _ _ _ (sym (root-is a x) ∙ root-is a′ y);
       lists = λ q a a′ r o o′ es es′ e e′ x y z. omega (arith, count-is q a es e x z, count-is q a′ es′ e′ y z);
+      refusals = λ q q′ a a′ r o o′ x y k d f. y .0 .exactly k d .0 (x .0 .exactly k d .1 f);
     }

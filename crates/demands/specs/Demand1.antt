@@ -1,5 +1,5 @@
--- Demand 1: every question gives an answer or a refusal of document 01's table, or document 02's 10 or 12. A refusal is given exactly when its condition holds and
--- none before it in the order does, with its detail; and then every byte of the lent buffer is as it was.
+-- Demand 1: every tree table, source, message and offset gets an answer or a numbered refusal of document 01, or document 02's 10 or 12. A refusal is given exactly when
+-- its condition holds and none before it in the order does, with its detail; then no byte of a lent buffer is touched.
 -- No caller need check anything first: `ask` has no `requires`, and this is said of every table, source, message, offset, offsets, record and buffer.
 -- Definitions only; it is a contract of `ask` (src/lib.rt), and proofs/Stages.antt, Replies.antt and Promises.antt say why it holds.
 use Prim.Native.Nat.{ℕ, _+_, _*_, _≤_, _<_}
@@ -69,9 +69,9 @@ pub record Refuses (reply : ℕ) : Type 0 where
 
 -- ---- the demand, of a question, what it is asked, its reply and what is in the buffer afterwards
 pub record Demand1 (q : Question) (a : Asked) (reply : ℕ) (out : List ℕ) : Type 0 where
-  -- an answer or a refusal of the table
+  -- it gets an answer or a numbered refusal
   pub either : Answer reply ⊎ Refuses reply
   -- a refusal is given exactly when its condition holds and none before it in the order does
   pub exactly : (k d : ℕ) → Refusal reply k d ↔ First a (matter q a) k d
-  -- and then every byte of the lent buffer is as it was
+  -- then no byte of the lent buffer is touched
   pub kept : (k d : ℕ) → Refusal reply k d → out ≡ a .out

@@ -13,7 +13,7 @@ use Rattle.replies.specs.Apart.{checkReply, hintFor, statementFor, rootFor}
 use Rattle.demands.specs.declared.Question.{Question}
 use Rattle.demands.specs.declared.Question.the-variants.{Check, BracketHint, EnclosingStatement, CursorRoot}
 use Rattle.demands.specs.Questions.{Asked, rows, matter}
-use Rattle.demands.specs.Demand1.{Answer}
+use Rattle.demands.specs.Demand1.{First, Answer}
 use Rattle.demands.specs.Demand2.{Meets}
 
 -- the reply to a question, before it is a number
@@ -38,10 +38,15 @@ abbrev pub SameCount : Type 0
 SameCount = (q : Question) (a a′ : Asked) (r : ℕ) (o o′ : List ℕ) (es es′ : List (List ℕ)) → matter q a .said ≡ rows es → matter q a′ .said ≡ rows es′
     → Meets q a r o → Meets q a′ r o′ → Answer r → length es ≡ length es′
 
--- of the four questions that are answered by a number alone, and of those for a list
+-- two calls that got the number r, for whatever questions, are refused for the same condition with the same detail, or neither is
+abbrev pub SameRefusal : Type 0
+SameRefusal = (q q′ : Question) (a a′ : Asked) (r : ℕ) (o o′ : List ℕ) → Meets q a r o → Meets q′ a′ r o′ → (k d : ℕ) → First a (matter q a) k d → First a′ (matter q′ a′) k d
+
+-- of the four questions that are answered by a number alone, of those for a list, and of all
 pub record OneNumber : Type 0 where
   pub checks : SameReply Check checkOf
   pub hints : SameReply BracketHint hintsOf
   pub statements : SameReply EnclosingStatement statementsOf
   pub roots : SameReply CursorRoot rootsOf
   pub lists : SameCount
+  pub refusals : SameRefusal

@@ -1,1 +1,2 @@
 pub mod EverythingLaws
+pub mod Fitting

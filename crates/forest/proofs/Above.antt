@@ -1,14 +1,17 @@
 -- What stands above a record of an admitted table:
 --     climbs         its parent, then what stands above that one
 --     above-deep     as many nodes as it is deep
+--     above-below    each a number of the table
 -- Assumes nothing.
 use Prim.Native.Nat.{ℕ, zero, suc, _+_, _-_, _≤_, _<_}
 use mathlib.Core.Path.{_≡_, refl, sym, ap, _∙_}
-use mathlib.Core.List.{List, _∷_}
+use mathlib.Core.Bool.{Bool, true, false, cond}
+use mathlib.Core.List.{List, [], _∷_}
 use mathlib.Core.Logic.{⊎-elim}
 use native.Mathlib.Omega.{arith}
 use native.Mathlib.Numerals.{add-one}
 use borrow.Author.Tests.{lt-ltb, le-ltb, eq-eqb, ne-eqb}
+use lib.Dec.{ltb}
 use lib.ListN.{length}
 use Rattle.lent.specs.declared.verdict.Verdict.{Verdict}
 use Rattle.lent.specs.declared.verdict.Verdict.the-variants.{Admitted}
@@ -145,6 +148,25 @@ module _ (t : List ℕ) (n : ℕ) (w : Tidy t n) where
 
   pub above-deep : (i : ℕ) → i < count t → length (above t i) ≡ depthAt t i
   above-deep i c = deep i i (omega arith) c
+
+-- each of some numbers is below m
+unfoldable pub AllBelow : ℕ → List ℕ → Type 0
+AllBelow m [] = Unit
+AllBelow m (x ∷ xs) = (x < m) × AllBelow m xs
+
+pub below-chosen : (m : ℕ) (b : Bool) (xs ys : List ℕ) → AllBelow m xs → AllBelow m ys → AllBelow m (cond b xs ys)
+below-chosen m true xs ys p q = p
+below-chosen m false xs ys p q = q
+
+among-below : (t : List ℕ) (n m i : ℕ) → i ≤ m → AllBelow m (aboveAmong t n i)
+unfolding aboveAmong AllBelow
+among-below t n m zero h = tt
+among-below t n m (suc x) h =
+    let on = among-below t n m x (omega arith) in
+    below-chosen m (ltb n (stretchEnd t x)) (x ∷ aboveAmong t n x) (aboveAmong t n x) (h, on) on
+
+pub above-below : (t : List ℕ) (n m : ℕ) → n ≤ m → AllBelow m (above t n)
+above-below t n m h = among-below t n m n h
 
 -- of what the check says
 pub admitted-climbs : (t : List ℕ) (n : ℕ) {v : Verdict} → v ≡ verdict t n 0 → v ≡ Admitted → Climbs t

@@ -1,5 +1,5 @@
 -- Numbers that fit 32 bits are read back from their four bytes, and lists of entries that fit are put together.
---     word-back                                   a number, from its bytes
+--     word-back, word-fits                        a number, from its bytes; one of any four bytes
 --     fit-append, fit-chosen, fit-lists           rows, and lists of entries
 -- Assumes nothing.
 use Prim.Native.Nat.{ℕ, _+_, _*_, _/_, _%_, _<_}
@@ -8,7 +8,7 @@ use mathlib.Core.Bool.{Bool, true, false, cond}
 use mathlib.Core.List.{List, [], _∷_, _++_}
 use native.Mathlib.Omega.{arith}
 use native.Mathlib.Nat.{div-div-eq-div-mul}
-use Rattle.lent.specs.Numbers.{wordLimit, word, le4}
+use Rattle.lent.specs.Numbers.{wordLimit, OfBytes, word, le4}
 use Rattle.lent.specs.Fit32.{Fit32, AllFit32}
 
 -- ---- a number
@@ -28,6 +28,10 @@ unfolding word
 word-back v rest h =
     joined (v % 256) (v / 256 % 256) (v / 65536 % 256) (v / 16777216 % 256) (v % 65536) (v / 65536 % 65536) v
     (low v) (rw (← div-div-eq-div-mul v 65536 256) (low (v / 65536))) (whole v h)
+
+pub word-fits : (t : List ℕ) (at : ℕ) → OfBytes t → word t at < wordLimit
+unfolding word
+word-fits t at b = omega (arith, b at, b (at + 1), b (at + 2), b (at + 3))
 
 -- ---- rows and lists
 

@@ -1,6 +1,6 @@
 -- A 32-bit number in four little-endian bytes.
 -- Definitions only.
-use Prim.Native.Nat.{ℕ, _+_, _*_, _/_, _%_}
+use Prim.Native.Nat.{ℕ, _+_, _*_, _/_, _%_, _<_}
 use mathlib.Core.List.{List, [], _∷_}
 use lib.ListN.{getD}
 
@@ -11,6 +11,10 @@ numberBytes = 4
 -- a number of four bytes is below this
 abbrev pub wordLimit : ℕ
 wordLimit = 4294967296
+
+-- each is a byte, below 256: known of every slice that a function is lent, and said here since a list may hold any numbers
+abbrev pub OfBytes : List ℕ → Type 0
+OfBytes t = (i : ℕ) → getD t i 0 < 256
 
 -- the little-endian number in the four bytes of t from `at` on
 unfoldable pub word : List ℕ → ℕ → ℕ

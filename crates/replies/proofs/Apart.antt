@@ -6,18 +6,16 @@
 use Prim.Native.Nat.{ℕ, zero, suc, _≤_, _<_}
 use mathlib.Core.Path.{_≡_, refl, sym, ap, _∙_}
 use mathlib.Core.Bool.{Bool, true, false, cond}
-use mathlib.Core.List.{List, [], _∷_, _++_}
+use mathlib.Core.List.{List, [], _∷_}
 use native.Mathlib.Omega.{arith}
 use lib.ListN.{length}
 use Rattle.lent.specs.declared.verdict.Verdict.{Verdict}
 use Rattle.lent.specs.declared.verdict.Verdict.the-variants.{Admitted, Refused}
 use Rattle.lent.specs.declared.list.Listed.{Listed}
 use Rattle.lent.specs.declared.list.Listed.the-variants.{Entries, Refused as Denied}
-use Rattle.lent.specs.Verdicts.{Rule, rule, first}
-use Rattle.conditions.specs.Conditions.{noRoot, noSuchRecord}
+use Rattle.lent.specs.Verdicts.{Rule, first}
 use Rattle.refusals.specs.ByRecord.{rulesFrom}
 use Rattle.table.specs.Rules.{rules, verdict}
-use Rattle.lent.specs.Lists.{roomRule, reply, listed}
 use Rattle.brackets.specs.declared.bracket_matching.Hint.{Hint}
 use Rattle.brackets.specs.declared.bracket_matching.Hint.the-variants.{Opener, NoOpener}
 use Rattle.brackets.specs.declared.bracket_matching.HintReply.{HintReply}
@@ -33,7 +31,7 @@ use Rattle.statement.proofs.Fitting.{statement-within}
 use Rattle.cursor_root.specs.declared.root.RootReply.{RootReply}
 use Rattle.cursor_root.specs.declared.root.RootReply.the-variants.{Root, Refused as Unrooted}
 use Rattle.cursor_root.specs.Root.{rootAt, rootReply}
-use Rattle.replies.specs.Apart.{hintFor, statementFor, ListRules, of-table, of-root, of-record, of-offsets, Apart}
+use Rattle.replies.specs.Apart.{hintFor, statementFor, Apart}
 use Rattle.replies.specs.Reply.{half, noRecord, packed, verdictReply, listReply, hintRecord, hintReply, statementNumber, rootNumber}
 
 -- the halves of a number come back
@@ -49,7 +47,7 @@ record Proper (k : ℕ) : Type 0 where
 through : {R S : Type 0} (read : R → S) (back : S → R) → ((v : R) → back (read v) ≡ v) → (v w : R) → read v ≡ read w → v ≡ w
 through read back same v w e = sym (same v) ∙ ap back e ∙ same w
 
--- ---- a number or a refusal: a list; a root and a verdict are read as one
+-- ---- a number or a refusal, as a list has it: a root and a verdict are read as one
 
 unfoldable Lists : Listed → Type 0
 Lists (Entries n) = Unit
@@ -166,15 +164,6 @@ ProperRules (r ∷ rs) = Proper (r .number) × ProperRules rs
 proper : (k : ℕ) → 0 < k → k ≤ 12 → Proper k
 proper k h g = record { some = h; low = omega arith }
 
-both : (rs ss : List Rule) → ProperRules rs → ProperRules ss → ProperRules (rs ++ ss)
-unfolding ProperRules
-both [] ss p q = q
-both (r ∷ rs) ss p q = (p .0, both rs ss (p .1) q)
-
-one : (k d : ℕ) (b : Bool) → 0 < k → k ≤ 12 → ProperRules (rule k d b ∷ [])
-unfolding ProperRules
-one k d b h g = (proper k h g, tt)
-
 from-record : (t : List ℕ) (n i c : ℕ) → ProperRules (rulesFrom t n i c)
 unfolding rulesFrom ProperRules
 from-record t n i zero = tt
@@ -184,14 +173,6 @@ from-record t n i (suc c) =
 of-rules : (t : List ℕ) (n m : ℕ) → ProperRules (rules t n m)
 unfolding ProperRules
 of-rules t n m = (proper 1 (omega arith) (omega arith), (proper 2 (omega arith) (omega arith), from-record t n 0 _))
-
-of-lists : {rs : List Rule} → ListRules rs → ProperRules rs
-unfolding ProperRules
-of-lists (of-table t n e) = rw e (of-rules t n 0)
-of-lists (of-root t n i e) = rw e (both (rules t n 0) _ (of-rules t n 0) (one 8 0 (noRoot t i) (omega arith) (omega arith)))
-of-lists (of-record t n i e) = rw e (both (rules t n 0) _ (of-rules t n 0) (one 8 0 (noSuchRecord t i) (omega arith) (omega arith)))
-of-lists (of-offsets t n b e) =
-    rw e (proper 1 (omega arith) (omega arith), (proper 2 (omega arith) (omega arith), (proper 10 (omega arith) (omega arith), from-record t n 0 _)))
 
 unfoldable ProperVerdict : Verdict → Type 0
 ProperVerdict Admitted = Unit
@@ -216,16 +197,6 @@ verdict-given : (v : Verdict) → ProperVerdict v → Lists (verdictAsList v)
 unfolding ProperVerdict Lists verdictAsList
 verdict-given Admitted p = tt
 verdict-given (Refused k d) p = p
-
-reply-given : (v : Verdict) (n : ℕ) → ProperVerdict v → Lists (reply v n)
-unfolding ProperVerdict Lists reply
-reply-given Admitted n p = tt
-reply-given (Refused k d) n p = p
-
-list-given : {E : Type 0} (row : E → List ℕ) (rs : List Rule) → ListRules rs → (es : List E) (out : List ℕ) → Lists (listed rs row es out)
-unfolding listed
-list-given row rs p es out =
-    reply-given (first (rs ++ roomRule row es out ∷ [])) (length es) (proper-first _ (both rs (roomRule row es out ∷ []) (of-lists p) (one 7 _ _ (omega arith) (omega arith))))
 
 root-given : (v : Verdict) (n : ℕ) → ProperVerdict v → Lists (rootAsList (rootReply v n))
 unfolding ProperVerdict Lists rootAsList rootReply
@@ -252,7 +223,6 @@ apart =
       hints = λ t t′ m m′ n n′ e. hint-apart _ _ (of-hint t n m) (of-hint t′ n′ m′) e;
       statements = λ t t′ n n′ o o′ e. statement-apart _ _ (of-statement t n o) (of-statement t′ n′ o′) e;
       roots = λ t t′ n n′ o o′ e. root-apart _ _ (root-given _ (rootAt t o) (proper-verdict t n 0)) (root-given _ (rootAt t′ o′) (proper-verdict t′ n′ 0)) e;
-      lists = λ row row′ rs rs′ p p′ es es′ out out′ e. list-apart _ _ (list-given row rs p es out) (list-given row′ rs′ p′ es′ out′) e;
     }
   where
     of-hint : (t : List ℕ) (n : ℕ) (m : List ℕ) → Statements (hintAsStatement (hintFor t n m))

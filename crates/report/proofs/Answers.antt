@@ -1,42 +1,31 @@
 -- What the replies of the questions say where the table is admitted, and how much room their lists need.
 --     statement-found, ..   the statement: no refusal
 --     list-given, ..        a list that is answered, and one that is not
---     classes-fit, ..       classes and openers: no more than records
 -- Assumes nothing.
-use Prim.Native.Nat.{ℕ, suc, _+_, _*_, _≤_}
+use Prim.Native.Nat.{ℕ, _+_, _*_, _≤_}
 use mathlib.Core.Path.{_≡_, refl, sym, ap, _∙_}
-use mathlib.Core.Bool.{Bool, true, false, cond}
-use mathlib.Core.Option.{Option, none, some}
-use mathlib.Core.List.{List, [], _∷_, _++_, map, reverse}
+use mathlib.Core.Bool.{Bool, true, false}
+use mathlib.Core.List.{List, [], _∷_, _++_, map}
 use native.Mathlib.Omega.{arith}
 use native.Mathlib.Nat.{mul-le-mul-right}
 use lib.Dec.{ltb}
-use lib.ListN.{length, drop, length-append, length-map, length-reverse}
+use lib.ListN.{length, drop, length-append}
 use borrow.Author.Tests.{ltb-false, le-ltb}
-use Rattle.records.specs.declared.record.Rec.{Rec}
 use Rattle.lent.specs.declared.verdict.Verdict.{Verdict}
 use Rattle.lent.specs.declared.verdict.Verdict.the-variants.{Admitted, Refused}
 use Rattle.lent.specs.declared.list.Listed.{Listed}
 use Rattle.lent.specs.declared.list.Listed.the-variants.{Entries, Refused as Unlisted}
-use Rattle.records.specs.Table.{count, kindAt, recordAt, records, from}
-use Rattle.forest.specs.Forest.{Forest, nil, token, node, kids}
-use Rattle.forest.specs.Sense.{treeOf, inOrder, byDepth}
 use Rattle.lent.specs.Verdicts.{Rule, first}
 use Rattle.table.specs.Rules.{rules, rootRules, verdict}
 use Rattle.lent.specs.Numbers.{numberBytes}
 use Rattle.lent.specs.Lists.{listBytes, roomRule, listVerdict, reply, buffer, listed, lent}
 use Rattle.lent.proofs.Verdicts.{then-admitted}
 use Rattle.lent.proofs.Writes.{length-wide}
-use Rattle.forest.proofs.Limits.{run-length}
-use Rattle.forest.proofs.Sense.{admitted-tidy, whole-tree}
+use Rattle.forest.proofs.Sense.{admitted-tidy}
 use Rattle.statement.specs.declared.statement.Enclosing.{Enclosing}
 use Rattle.statement.specs.declared.statement.Enclosing.the-variants.{Outside, Record}
 use Rattle.statement.specs.declared.statement.StatementReply.the-variants.{Statement, NoStatement, Refused as Unstated}
-use Rattle.classes.specs.declared.token_class.TokenClass.{TokenClass}
 use Rattle.statement.specs.Statement.{told, statementReply}
-use Rattle.classes.specs.TokenClass.{numberOf, classOf}
-use Rattle.scope.specs.Classes.{entryWith, entryOf, classes, classesOf}
-use Rattle.brackets.specs.Brackets.{isOpener, isCloser, fits, closed, stackStep, left, stackLeft, indexOf, openersLeft}
 use Rattle.tables.specs.Tables.{referenceBytes, referenceRow}
 use Rattle.scope.specs.Scope.{tableRefs}
 use Rattle.print.specs.Printed.{letterT, printedList, refusalLine}
@@ -181,70 +170,3 @@ module _ (src t out : List ℕ) (z : length out ≡ referenceRoom) where
 pub answer-room : (n : ℕ) {r₁ r₂ r₃ r₄ r₅ : ℕ} → n ≤ mostReferences → r₁ ≤ 0 + lineRoom → r₂ ≤ r₁ + lineRoom → r₃ ≤ r₂ + lineRoom * n
     → r₄ ≤ r₃ + lineRoom * mostLines → r₅ ≤ r₄ + lineRoom * mostLines → r₅ + 2 ≤ textRoom
 answer-room n h a b c d e = omega arith
-
--- ---- how many entries
-
-linked-length : (t : List ℕ) (rs : List Rec) → length (byDepth t rs) ≡ length rs
-unfolding byDepth
-linked-length t [] = refl
-linked-length t (r ∷ rs) = ap suc (linked-length t rs)
-
-entry-one : (c : TokenClass) (s e : ℕ) → length (entryOf c s e) ≤ 1
-unfolding entryOf entryWith
-entry-one c s e = go (numberOf c)
-  where
-    go : (n : Option ℕ) → length (entryWith n s e) ≤ 1
-    go none = omega arith
-    go (some n) = omega arith
-
-classes-below : (src : List ℕ) (k p : ℕ) (f : Forest) → length (classes src k f) ≤ length (inOrder p f)
-unfolding classes inOrder
-classes-below src k p nil = omega arith
-classes-below src k p (token r rest) =
-    omega (arith, length-append (entryOf (classOf src k (r .kind) (r .start) (r .end)) (r .start) (r .end)) (classes src k rest), entry-one (classOf src k (r .kind) (r .start) (r .end)) (r .start) (r .end), classes-below src k p rest)
-classes-below src k p (node r below rest) =
-    omega (arith, length-append (classes src (r .kind) below) (classes src k rest), length-append (inOrder (r .index) below) (inOrder p rest), classes-below src (r .kind) (r .index) below, classes-below src k p rest)
-
-closed-less : (stack : List Rec) (c : ℕ) → length (closed stack c) ≤ length stack
-unfolding closed
-closed-less [] c = omega arith
-closed-less (o ∷ stack) c = go (fits (o .kind) c) refl
-  where
-    go : (b : Bool) → fits (o .kind) c ≡ b → length (cond (fits (o .kind) c) stack (o ∷ stack)) ≤ suc (length stack)
-    go true e = rw e (omega arith)
-    go false e = rw e (omega arith)
-
-stepped-one : (stack : List Rec) (r : Rec) → length (stackStep stack r) ≤ suc (length stack)
-unfolding stackStep
-stepped-one stack r = go (isOpener (r .kind)) refl (isCloser (r .kind)) refl
-  where
-    go : (b : Bool) → isOpener (r .kind) ≡ b → (d : Bool) → isCloser (r .kind) ≡ d → length (stackStep stack r) ≤ suc (length stack)
-    go true e d q = rw e (omega arith)
-    go false e true q = rw (e, q) (omega (arith, closed-less stack (r .kind)))
-    go false e false q = rw (e, q) (omega arith)
-
-left-below : (stack : List Rec) (p : ℕ) (f : Forest) → length (left stack f) ≤ length stack + length (inOrder p f)
-unfolding left inOrder
-left-below stack p nil = omega arith
-left-below stack p (token r rest) = omega (arith, left-below (stackStep stack r) p rest, stepped-one stack r)
-left-below stack p (node r below rest) =
-    omega (arith, left-below (left stack below) p rest, left-below stack (r .index) below, length-append (inOrder (r .index) below) (inOrder p rest))
-
-module _ (t : List ℕ) (n : ℕ) (a : Admitted ≡ verdict t n 0) where
-  tree-length : length (inOrder 0 (treeOf t)) ≡ count t
-  unfolding from
-  tree-length =
-      ap length (whole-tree t n (admitted-tidy t n 0 (sym a))) ∙ linked-length t (records 0 t) ∙ run-length t 0 0 _ ∙ omega arith
-
-  kids-few : length (inOrder (recordAt t 0 0 .index) (kids (records 0 t))) ≤ count t
-  kids-few = omega (arith, tree-length, whole, length-append (inOrder (recordAt t 0 0 .index) (kids (records 0 t))) (inOrder 0 nil))
-    where
-      whole : length (inOrder 0 (treeOf t)) ≡ suc (length (inOrder (recordAt t 0 0 .index) (kids (records 0 t)) ++ inOrder 0 nil))
-      whole = (unfold inOrder in refl)
-
-  pub classes-few : (src : List ℕ) → length (classesOf src t) ≤ count t
-  classes-few src = omega (arith, classes-below src (kindAt t 0) (recordAt t 0 0 .index) (kids (records 0 t)), kids-few)
-
-  pub openers-few : length (openersLeft t) ≤ count t
-  openers-few =
-      omega (arith, length-map (reverse (stackLeft t)) indexOf, length-reverse (stackLeft t), left-below [] (recordAt t 0 0 .index) (kids (records 0 t)), kids-few)

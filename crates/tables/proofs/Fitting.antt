@@ -1,66 +1,34 @@
--- Every number of a reference fits 32 bits, where the tree that it is read in keeps document 01's limits.
---     read-fits     the references of a table reading
+-- Every number of a reference fits 32 bits, where the tree that it is read in keeps document 01's limits, and every number of an alias where its nodes' spans
+-- fit too; and a table reading lists no more than its tree has records.
+--     read-fits, aliases-fit     the references of a table reading, and its aliases
+--     read-few                   how many
 -- Assumes nothing.
-use Prim.Native.Nat.{ℕ, _+_, _-_, _<_}
-use mathlib.Core.Bool.{Bool, true, false, cond, _&&_}
+use Prim.Native.Nat.{ℕ, suc, _+_, _≤_, _<_}
+use mathlib.Core.Path.{_≡_, refl}
+use mathlib.Core.Bool.{Bool, true, false, cond}
 use mathlib.Core.List.{List, [], _∷_, _++_}
 use native.Mathlib.Omega.{arith}
-use lib.Dec.{leb, eqb}
+use lib.Dec.{eqb}
+use lib.ListN.{length, length-append}
 use Rattle.records.specs.declared.record.Rec.{Rec}
-use Rattle.records.specs.declared.range.Range.{Range}
-use Rattle.records.specs.Kinds.{quotedIdentifier, joinClause, tableIdentifier, tableExpression, tableAlias}
+use Rattle.records.specs.Kinds.{joinClause, tableIdentifier, tableExpression, tableAlias}
 use Rattle.conditions.specs.Conditions.{mostRecords}
-use Rattle.records.specs.Ranges.{span}
 use Rattle.lent.specs.Fit32.{Fit32, AllFit32}
 use Rattle.lent.proofs.Fit32.{fit-append, fit-lists, fit-chosen}
 use Rattle.forest.specs.Forest.{Forest, nil, token, node}
-use Rattle.forest.specs.Limits.{WithinSource, AllWithinSource, Limited}
-use Rattle.forest.proofs.Limits.{near-chosen}
+use Rattle.forest.specs.Limits.{AllWithinSource, Limited, size}
+use Rattle.forest.proofs.Limits.{Inherited, limited-inherited, Fitting, fitting-inherited}
 use Rattle.names.specs.declared.names.NameRanges.{NameRanges}
+use Rattle.names.specs.declared.names.NameBinding.{NameBinding}
 use Rattle.names.specs.declared.names.Bound.{Bound}
 use Rattle.names.specs.declared.names.Bound.the-variants.{Unnamed, Named}
-use Rattle.names.specs.Names.{byteAt, isMark, isPart, isName, direct, unquoted, nameOf, absentName, binding, boundName, lastNamed, aliasIn}
+use Rattle.names.specs.Names.{isPart, isName, direct, nameOf, absentName, binding, boundName, lastNamed, aliasIn}
+use Rattle.names.specs.Bindings.{bindingRow}
+use Rattle.names.proofs.Fitting.{RangesFit, absent-fits, name-fits, direct-near, BoundFits, alias-fits}
 use Rattle.tables.specs.declared.pending.TableRef.{TableRef}
 use Rattle.tables.specs.declared.pending.Pending.{Pending}
 use Rattle.tables.specs.declared.pending.Pending.the-variants.{Nothing, Held}
-use Rattle.tables.specs.Tables.{fresh, aliased, handOn, listAlias, tableReading, references, nameRow, referenceRow}
-
--- ---- names
-
-abbrev RangesFit : NameRanges → Type 0
-RangesFit n = Fit32 (nameRow n)
-
-absent-fits : RangesFit absentName
-unfolding Fit32
-absent-fits = (omega arith, (omega arith, (omega arith, (omega arith, tt))))
-
--- a name with and without its quotes
-ranges-fit : (b : Bool) (t : Rec) (x : Range) → WithinSource t → (x .start < 4294967296) × (x .end < 4294967296)
-    → RangesFit (record { outer = span t; inner = cond b x (span t) })
-unfolding Fit32
-ranges-fit true t x h q = (omega arith, (omega arith, (q .0, (q .1, tt))))
-ranges-fit false t x h q = (omega arith, (omega arith, (omega arith, (omega arith, tt))))
-
-within-fits : (src : List ℕ) (s e : ℕ) → s < 4294967295 → e < 4294967296 → (unquoted src s e .start < 4294967296) × (unquoted src s e .end < 4294967296)
-unfolding unquoted
-within-fits src s e h g = go (leb 2 (e - s) && (isMark (byteAt src s) && eqb (byteAt src (e - 1)) (byteAt src s)))
-  where
-    go : (b : Bool) → (cond {A = Range} b (record { start = s + 1; end = e - 1 }) (record { start = s; end = e }) .start < 4294967296)
-        × (cond {A = Range} b (record { start = s + 1; end = e - 1 }) (record { start = s; end = e }) .end < 4294967296)
-    go true = (omega arith, omega arith)
-    go false = (omega arith, omega arith)
-
-name-fits : (src : List ℕ) (t : Rec) → WithinSource t → RangesFit (nameOf src t)
-unfolding nameOf
-name-fits src t h = ranges-fit (eqb (t .kind) quotedIdentifier) t (unquoted src (t .start) (t .end)) h (within-fits src (t .start) (t .end) (omega arith) (omega arith))
-
--- ---- the name tokens of a node
-
-direct-near : (test : Rec → Bool) (f : Forest) → Limited f → AllWithinSource (direct test f)
-unfolding direct Limited AllWithinSource
-direct-near test nil w = tt
-direct-near test (token t rest) w = near-chosen (test t) t (direct test rest) (w .0 .1) (direct-near test rest (w .1))
-direct-near test (node r below rest) w = direct-near test rest (w .2)
+use Rattle.tables.specs.Tables.{Listing, fresh, aliased, handOn, listAlias, tableReading, references, aliases, nameRow, referenceRow}
 
 -- ---- the pending reference
 
@@ -90,8 +58,8 @@ unfolding lastNamed AllWithinSource
 last-fits src r b [] h w = h
 last-fits src r b (t ∷ more) h w = last-fits src r (Named (binding src r t)) more (unfold AliasFits binding in name-fits src t (w .0)) (w .1)
 
-alias-set-fits : (src : List ℕ) (r : Rec) (f : Forest) → Limited f → AliasFits (aliasIn src r f)
-alias-set-fits src r f w = last-fits src r Unnamed (direct (isName src) f) (unfold AliasFits in tt) (direct-near (isName src) f w)
+set-fits : (src : List ℕ) (r : Rec) (f : Forest) → Limited f → AliasFits (aliasIn src r f)
+set-fits src r f w = last-fits src r Unnamed (direct (isName src) f) (unfold AliasFits in tt) (direct-near (isName src) f w)
 
 -- the twelve numbers that stay, with the alias
 replaced : (t : TableRef) (a : NameRanges) → Fit32 (referenceRow t) → RangesFit a
@@ -105,36 +73,126 @@ aliased-fits Nothing b h w = tt
 aliased-fits (Held t) Unnamed h w = h
 aliased-fits (Held t) (Named b) h w = replaced t (boundName b) h w
 
--- ---- the reading
+-- ---- the reading, of what is handed on and of aliases that are set
+
+module _ {E : Type 0} (row : E → List ℕ) (L : Listing E) (src : List ℕ) {P : Forest → Type 0} (parts : Inherited P)
+    (limited : (r : Rec) (below rest : Forest) → P (node r below rest) → (r .index < mostRecords) × Limited below)
+    (hand : (p : Pending) → PendingFits p → AllFit32 row (handOn L p))
+    (alias : (p : Pending) (r : Rec) (below rest : Forest) → P (node r below rest) → AllFit32 row (listAlias L p (aliasIn src r below))) where
+  reading-fits : (p : Pending) (f : Forest) → PendingFits p → P f → AllFit32 row (tableReading L src p f)
+  unfolding tableReading
+  reading-fits p nil h w = hand p h
+  reading-fits p (token r rest) h w = reading-fits p rest h (parts .behind-token w)
+  reading-fits p (node r below rest) h w =
+      let v = parts .behind-node w in
+      let known = limited r below rest w in
+      let inner = reading-fits Nothing below (unfold PendingFits in tt) (parts .below w) in
+      fit-chosen row (eqb (r .kind) tableIdentifier) _ _
+      (fit-lists row (handOn L p) _ (hand p h)
+      (reading-fits (fresh src (r .index) (direct isPart below)) rest
+      (fresh-fits src (r .index) (direct isPart below) (known .0) (direct-near isPart below (known .1))) v))
+      (fit-chosen row (eqb (r .kind) tableAlias) _ _
+      (fit-lists row (listAlias L p (aliasIn src r below)) _ (alias p r below rest w)
+      (reading-fits (aliased p (aliasIn src r below)) rest (aliased-fits p (aliasIn src r below) h (set-fits src r below (known .1))) v))
+      (fit-chosen row (eqb (r .kind) tableExpression) _ _
+      (fit-lists row (tableReading L src Nothing below) _ inner (reading-fits p rest h v))
+      (fit-chosen row (eqb (r .kind) joinClause) _ _
+      (fit-lists row (handOn L p) _ (hand p h)
+      (fit-lists row (tableReading L src Nothing below) _ inner (reading-fits Nothing rest (unfold PendingFits in tt) v)))
+      (reading-fits p rest h v))))
 
 hand-fits : (p : Pending) → PendingFits p → AllFit32 referenceRow (handOn references p)
 unfolding handOn PendingFits AllFit32
 hand-fits Nothing h = tt
 hand-fits (Held t) h = (h, tt)
 
-alias-fits : (p : Pending) (b : Bound) → AllFit32 referenceRow (listAlias references p b)
+no-alias : (p : Pending) (b : Bound) → AllFit32 referenceRow (listAlias references p b)
 unfolding listAlias AllFit32
-alias-fits Nothing b = tt
-alias-fits (Held t) Unnamed = tt
-alias-fits (Held t) (Named b) = tt
-
-reading-fits : (src : List ℕ) (p : Pending) (f : Forest) → PendingFits p → Limited f → AllFit32 referenceRow (tableReading references src p f)
-unfolding tableReading Limited
-reading-fits src p nil h w = hand-fits p h
-reading-fits src p (token r rest) h w = reading-fits src p rest h (w .1)
-reading-fits src p (node r below rest) h w =
-    fit-chosen referenceRow (eqb (r .kind) tableIdentifier) _ _
-    (fit-lists referenceRow (handOn references p) _ (hand-fits p h)
-    (reading-fits src (fresh src (r .index) (direct isPart below)) rest (fresh-fits src (r .index) (direct isPart below) (w .0) (direct-near isPart below (w .1))) (w .2)))
-    (fit-chosen referenceRow (eqb (r .kind) tableAlias) _ _
-    (fit-lists referenceRow (listAlias references p (aliasIn src r below)) _ (alias-fits p (aliasIn src r below))
-    (reading-fits src (aliased p (aliasIn src r below)) rest (aliased-fits p (aliasIn src r below) h (alias-set-fits src r below (w .1))) (w .2)))
-    (fit-chosen referenceRow (eqb (r .kind) tableExpression) _ _
-    (fit-lists referenceRow (tableReading references src Nothing below) _ (reading-fits src Nothing below (unfold PendingFits in tt) (w .1)) (reading-fits src p rest h (w .2)))
-    (fit-chosen referenceRow (eqb (r .kind) joinClause) _ _
-    (fit-lists referenceRow (handOn references p) _ (hand-fits p h)
-    (fit-lists referenceRow (tableReading references src Nothing below) _ (reading-fits src Nothing below (unfold PendingFits in tt) (w .1)) (reading-fits src Nothing rest (unfold PendingFits in tt) (w .2))))
-    (reading-fits src p rest h (w .2)))))
+no-alias Nothing b = tt
+no-alias (Held t) Unnamed = tt
+no-alias (Held t) (Named b) = tt
 
 pub read-fits : (src : List ℕ) (f : Forest) → Limited f → AllFit32 referenceRow (tableReading references src Nothing f)
-read-fits src f w = reading-fits src Nothing f (unfold PendingFits in tt) w
+unfolding Limited
+read-fits src f w = reading-fits referenceRow references src limited-inherited (λ r below rest v. (v .0, v .1)) hand-fits (λ p r below rest v. no-alias p (aliasIn src r below)) Nothing f (unfold PendingFits in tt) w
+
+no-reference : (p : Pending) → AllFit32 bindingRow (handOn aliases p)
+unfolding handOn AllFit32
+no-reference Nothing = tt
+no-reference (Held t) = tt
+
+listed-fits : (p : Pending) (b : Bound) → BoundFits b → AllFit32 bindingRow (listAlias aliases p b)
+unfolding listAlias BoundFits AllFit32
+listed-fits Nothing b h = tt
+listed-fits (Held t) Unnamed h = tt
+listed-fits (Held t) (Named b) h = (h, tt)
+
+pub aliases-fit : (src : List ℕ) (f : Forest) → Fitting f → AllFit32 bindingRow (tableReading aliases src Nothing f)
+unfolding Limited
+aliases-fit src f w =
+    reading-fits bindingRow aliases src fitting-inherited (λ r below rest v. (v .0 .0, v .0 .1)) (λ p h. no-reference p)
+    (λ p r below rest v. listed-fits p (aliasIn src r below) (alias-fits src r below rest v)) Nothing f (unfold PendingFits in tt) w
+
+-- ---- how many
+
+-- a pending reference is one that may still be listed
+unfoldable waiting : Pending → ℕ
+waiting Nothing = 0
+waiting (Held t) = 1
+
+module _ {E : Type 0} (L : Listing E) (src : List ℕ) (one-reference : (t : TableRef) → length (L .reference t) ≤ 1) (one-alias : (b : NameBinding) → length (L .alias b) ≤ 1) where
+  hand-few : (p : Pending) → length (handOn L p) ≤ waiting p
+  unfolding handOn waiting
+  hand-few Nothing = omega arith
+  hand-few (Held t) = one-reference t
+
+  alias-few : (p : Pending) (b : Bound) → length (listAlias L p b) ≤ 1
+  unfolding listAlias
+  alias-few Nothing b = omega arith
+  alias-few (Held t) Unnamed = omega arith
+  alias-few (Held t) (Named b) = one-alias b
+
+  aliased-waits : (p : Pending) (b : Bound) → waiting (aliased p b) ≤ waiting p
+  unfolding aliased waiting
+  aliased-waits Nothing b = omega arith
+  aliased-waits (Held t) Unnamed = omega arith
+  aliased-waits (Held t) (Named b) = omega arith
+
+  waits-one : (p : Pending) → waiting p ≤ 1
+  unfolding waiting
+  waits-one Nothing = omega arith
+  waits-one (Held t) = omega arith
+
+  none : waiting Nothing ≡ 0
+  unfolding waiting
+  none = refl
+
+  reading-few : (p : Pending) (f : Forest) → length (tableReading L src p f) ≤ waiting p + size f
+  unfolding tableReading size
+  reading-few p nil = omega (arith, hand-few p)
+  reading-few p (token r rest) = omega (arith, reading-few p rest)
+  reading-few p (node r below rest) =
+      go (eqb (r .kind) tableIdentifier) (eqb (r .kind) tableAlias) (eqb (r .kind) tableExpression) (eqb (r .kind) joinClause) (reading-few Nothing below) (λ q. reading-few q rest)
+    where
+      named : Pending
+      named = fresh src (r .index) (direct isPart below)
+
+      bound : Bound
+      bound = aliasIn src r below
+
+      read : Pending → Forest → List E
+      read = tableReading L src
+
+      go : (a b c d : Bool) → length (read Nothing below) ≤ waiting Nothing + size below → ((q : Pending) → length (read q rest) ≤ waiting q + size rest)
+          → length (cond a (handOn L p ++ read named rest) (cond b (listAlias L p bound ++ read (aliased p bound) rest)
+          (cond c (read Nothing below ++ read p rest) (cond d (handOn L p ++ (read Nothing below ++ read Nothing rest)) (read p rest)))))
+          ≤ waiting p + suc (size below + size rest)
+      go true b c d inner on = omega (arith, length-append (handOn L p) (read named rest), hand-few p, on named, waits-one named)
+      go false true c d inner on = omega (arith, length-append (listAlias L p bound) (read (aliased p bound) rest), alias-few p bound, on (aliased p bound), aliased-waits p bound)
+      go false false true d inner on = omega (arith, length-append (read Nothing below) (read p rest), inner, on p, none)
+      go false false false true inner on =
+          omega (arith, length-append (handOn L p) (read Nothing below ++ read Nothing rest), length-append (read Nothing below) (read Nothing rest), hand-few p, inner, on Nothing, none)
+      go false false false false inner on = omega (arith, on p)
+
+  pub read-few : (f : Forest) → length (tableReading L src Nothing f) ≤ size f
+  read-few f = omega (arith, reading-few Nothing f, none)

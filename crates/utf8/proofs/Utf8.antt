@@ -58,15 +58,15 @@ high a z h b p q = inr (omega arith)
 
 begins-all : Begins forms
 begins-all =
-    begins-more (bytes 0 127) _ _ (λ b p q. inl (omega arith))
-    (begins-more (bytes 194 223) _ _ (high 194 223 (omega arith))
-    (begins-more (bytes 224 224) _ _ (high 224 224 (omega arith))
-    (begins-more (bytes 225 236) _ _ (high 225 236 (omega arith))
-    (begins-more (bytes 237 237) _ _ (high 237 237 (omega arith))
-    (begins-more (bytes 238 239) _ _ (high 238 239 (omega arith))
-    (begins-more (bytes 240 240) _ _ (high 240 240 (omega arith))
-    (begins-more (bytes 241 243) _ _ (high 241 243 (omega arith))
-    (begins-more (bytes 244 244) _ _ (high 244 244 (omega arith))
+    begins-more _ _ _ (λ b p q. inl (omega arith))
+    (begins-more _ _ _ (high _ _ (omega arith))
+    (begins-more _ _ _ (high _ _ (omega arith))
+    (begins-more _ _ _ (high _ _ (omega arith))
+    (begins-more _ _ _ (high _ _ (omega arith))
+    (begins-more _ _ _ (high _ _ (omega arith))
+    (begins-more _ _ _ (high _ _ (omega arith))
+    (begins-more _ _ _ (high _ _ (omega arith))
+    (begins-more _ _ _ (high _ _ (omega arith))
     begins-none))))))))
 
 not-empty : isCharacter [] ≡ true → ⊥

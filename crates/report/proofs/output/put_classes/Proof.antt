@@ -1,7 +1,7 @@
 use Rattle.scope.specs.Classes.{classRow, classesOf}
 use Rattle.table.specs.Rules.{rules, verdict}
-use Rattle.scope.proofs.Fitting.{classes-fit}
-use Rattle.report.proofs.Answers.{list-fits, classes-few}
+use Rattle.scope.proofs.Fitting.{classes-fit, classes-few}
+use Rattle.report.proofs.Answers.{list-fits}
 use lib.ListN.{length}
 use mathlib.Core.Path.{refl}
 use native.Mathlib.Omega.{arith}
@@ -20,7 +20,7 @@ put-classes-spec =
     (λ c. search needs)  -- slice-aggregate-put-list
     (λ c κs.
     let a = c .before .before .before .before .before .before .before .before .before in
-    let m = classes-few (a .args .table .now) (length (a .args .source .now)) (a .pre .0) (a .args .source .now) in
+    let m = classes-few (a .args .source .now) (a .args .table .now) (length (a .args .source .now)) 0 (a .pre .0) in
     let w = c .before .before .before .before .token-classes .ensures in
     let f = list-fits classRow 3 (λ e. refl) (rules (a .args .table .now) (length (a .args .source .now)) 0) (classesOf (a .args .source .now) (a .args .table .now)) _ 1024 _ (a .pre .0) (classes-fit (a .args .source .now) (a .args .table .now) (length (a .args .source .now)) 0 (a .pre .0)) (omega (arith, m)) (omega arith) (w .0) (w .1) in
     let k = c .before .before .entry-count .ensures in
@@ -28,7 +28,7 @@ put-classes-spec =
     (λ c. search needs)  -- same-length
     (λ c.
     let a = c .before .before .before .before .before .before .before .before .before .before .before .before in
-    let m = classes-few (a .args .table .now) (length (a .args .source .now)) (a .pre .0) (a .args .source .now) in
+    let m = classes-few (a .args .source .now) (a .args .table .now) (length (a .args .source .now)) 0 (a .pre .0) in
     let w = c .before .before .before .before .before .before .before .token-classes .ensures in
     let f = list-fits classRow 3 (λ e. refl) (rules (a .args .table .now) (length (a .args .source .now)) 0) (classesOf (a .args .source .now) (a .args .table .now)) _ 1024 _ (a .pre .0) (classes-fit (a .args .source .now) (a .args .table .now) (length (a .args .source .now)) 0 (a .pre .0)) (omega (arith, m)) (omega arith) (w .0) (w .1) in
     let k = c .before .before .before .before .before .entry-count .ensures in

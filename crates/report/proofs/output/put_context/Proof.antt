@@ -1,6 +1,6 @@
 use Rattle.cursor.proofs.Replies.{refused-is, given-is}
 use Rattle.report.proofs.Answers.{never-both}
-use Rattle.report.proofs.Contexts.{context-fits}
+use Rattle.cursor.proofs.Fitting.{context-fits}
 use lib.ListN.{length}
 use mathlib.Core.Path.{sym, _∙_}
 use native.Mathlib.Omega.{arith}

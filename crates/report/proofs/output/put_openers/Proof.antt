@@ -1,7 +1,7 @@
 use Rattle.brackets.specs.Brackets.{openerRow, openersLeft}
 use Rattle.table.specs.Rules.{rules, verdict}
-use Rattle.brackets.proofs.Fitting.{openers-fit}
-use Rattle.report.proofs.Answers.{list-fits, openers-few}
+use Rattle.brackets.proofs.Fitting.{openers-fit, openers-few}
+use Rattle.report.proofs.Answers.{list-fits}
 use lib.ListN.{length}
 use mathlib.Core.Path.{refl}
 use native.Mathlib.Omega.{arith}
@@ -20,7 +20,7 @@ put-openers-spec =
     (λ c. search needs)  -- slice-aggregate-put-list
     (λ c κs.
     let a = c .before .before .before .before .before .before .before .before .before in
-    let m = openers-few (a .args .table .now) (length (a .args .source .now)) (a .pre .0) in
+    let m = openers-few (a .args .table .now) (length (a .args .source .now)) 0 (a .pre .0) in
     let w = c .before .before .before .before .openers-left .ensures in
     let f = list-fits openerRow 1 (λ e. refl) (rules (a .args .table .now) (length (a .args .source .now)) 0) (openersLeft (a .args .table .now)) _ 1024 _ (a .pre .0) (openers-fit (a .args .table .now) (length (a .args .source .now)) 0 (a .pre .0)) (omega (arith, m)) (omega arith) (w .0) (w .1) in
     let k = c .before .before .entry-count .ensures in
@@ -28,7 +28,7 @@ put-openers-spec =
     (λ c. search needs)  -- same-length
     (λ c.
     let a = c .before .before .before .before .before .before .before .before .before .before .before .before in
-    let m = openers-few (a .args .table .now) (length (a .args .source .now)) (a .pre .0) in
+    let m = openers-few (a .args .table .now) (length (a .args .source .now)) 0 (a .pre .0) in
     let w = c .before .before .before .before .before .before .before .openers-left .ensures in
     let f = list-fits openerRow 1 (λ e. refl) (rules (a .args .table .now) (length (a .args .source .now)) 0) (openersLeft (a .args .table .now)) _ 1024 _ (a .pre .0) (openers-fit (a .args .table .now) (length (a .args .source .now)) 0 (a .pre .0)) (omega (arith, m)) (omega arith) (w .0) (w .1) in
     let k = c .before .before .before .before .before .entry-count .ensures in
