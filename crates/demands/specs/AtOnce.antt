@@ -1,6 +1,6 @@
 -- Everything at a cursor in one call: exactly what the six single questions give over the same table, source and offset, each list in the buffer that it
 -- has in the call. src is the source's bytes, t the table's, o the offset.
--- Definitions only. `AtOnce` is a contract of `ask_at_once` (src/lib.rt), and proofs/AtOnce.antt says why it holds: by the promise of the call and the demands of
+-- Definitions only. `AtOnce` is a contract of `ask_at_once` (at_once/src/lib.rt), and proofs/AtOnce.antt says why it holds: by the promise of the call and the demands of
 -- the single questions alone.
 use Prim.Native.Nat.{ℕ, _/_, _≤_, _<_}
 use mathlib.Core.Path.{_≡_}

@@ -1,7 +1,7 @@
 -- Demand 1: every tree table, source, message and offset gets an answer or a numbered refusal of document 01, or document 02's 10 or 12. A refusal is given exactly when
 -- its condition holds and none before it in the order does, with its detail; then no byte of a lent buffer is touched.
 -- No caller need check anything first: `ask` has no `requires`, and this is said of every table, source, message, offset, offsets, record and buffer.
--- Definitions only; it is a contract of `ask` (src/lib.rt), and proofs/Stages.antt, Replies.antt and Promises.antt say why it holds.
+-- Definitions only; it is a contract of `ask` (ask/src/lib.rt), and proofs/Stages.antt, Replies.antt and Promises.antt say why it holds.
 use Prim.Native.Nat.{ℕ, _+_, _*_, _≤_, _<_}
 use mathlib.Core.Path.{_≡_}
 use mathlib.Core.Bool.{cond}

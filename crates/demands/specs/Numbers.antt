@@ -1,6 +1,6 @@
 -- Numbers: on an admitted table every number of an entry, a record, a count fits 32 bits. So four bytes hold each whole, and the halves of a reply tell truly what
 -- was said.
--- Definitions only. `Numbers` is a contract of `ask` (src/lib.rt), as demands 1 and 2 are: that the table's numbers are bytes is known of what it is lent, so no
+-- Definitions only. `Numbers` is a contract of `ask` (ask/src/lib.rt), as demands 1 and 2 are: that the table's numbers are bytes is known of what it is lent, so no
 -- caller need check it. proofs/Numbers.antt cites the law of each list; `entry-fits` there is of everything at a cursor.
 use Prim.Native.Nat.{ℕ, _*_, _<_}
 use mathlib.Core.Path.{_≡_}
