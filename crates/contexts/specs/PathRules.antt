@@ -13,7 +13,7 @@ use Rattle.contexts.specs.declared.context.CursorContext.{CursorContext}
 use Rattle.contexts.specs.declared.context.CursorContext.the-variants.{SelectExpression, TableReference, ColumnOfTable, Expression, SettingName, EngineName, FormatName, DataType, CodecName, FunctionArgument, StatementStart}
 use Rattle.contexts.specs.declared.context.Answer.{Answer}
 use Rattle.contexts.specs.declared.context.Answer.the-variants.{GoOn, Given}
-use Rattle.path.specs.declared.gathered.Next.{Next}
+use Rattle.path.specs.Path.{Next}
 use Rattle.path.specs.Path.{oneOf, onPath, nextOf, isDeepest, deepestOver}
 use Rattle.tokens.specs.LastToken.{lastTwo, dotted, isJoinWord}
 use Rattle.tokens.specs.Function.{functionName, arguments}

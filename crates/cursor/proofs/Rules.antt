@@ -12,8 +12,7 @@ use Rattle.records.specs.Kinds.{joinConstraint}
 use Rattle.records.specs.Table.{kindAt}
 use Rattle.forest.specs.Forest.{Forest, inside}
 use Rattle.forest.specs.Descent.{along}
-use Rattle.path.specs.declared.gathered.Next.{Next}
-use Rattle.path.specs.declared.gathered.Next.the-variants.{Deepest, Above}
+use Rattle.path.specs.Path.{Next, Deepest, Above}
 use Rattle.path.specs.declared.gathered.Gathered.{Gathered}
 use Rattle.contexts.specs.declared.context.Answer.{Answer}
 use Rattle.contexts.specs.declared.context.Answer.the-variants.{GoOn, Given}
@@ -24,7 +23,7 @@ use Rattle.cursor.specs.CursorContext.{contextAt}
 use Rattle.contexts.specs.inner.ByNumber.{gives, trailingFrom, givenBy}
 use Rattle.cursor.specs.inner.Steps.{told, ruledBy, analyzed}
 use Rattle.path.specs.inner.Rules.{ruleOf}
-use Rattle.path.specs.inner.Gathered.{settled, stepped, nothing, gathered}
+use Rattle.path.specs.inner.Gathered.{settledBy, settled, stepped, nothing, gathered}
 use Rattle.path.proofs.Kinded.{Kinded, path-kinds}
 use Rattle.path.proofs.Gathers.{numbered, gathered-statement, gathered-constrained}
 
@@ -79,7 +78,7 @@ module _ (src t : List ℕ) (o : ℕ) (c : Bool) where
   settle-told : (g : Gathered) (x : Next) → g .kind ≡ kindAt t (g .node)
       → elseAsk (ruled (g .kind) (pathRules src o (at src o c (g .kind) x (inside t (g .node))))) (toldAt (g .ruling) (g .ruled))
       ≡ toldAt (settled g x .ruling) (settled g x .ruled)
-  unfolding settled
+  unfolding settledBy
   settle-told g x q =
       rw (rule-at src o c (g .kind) x (inside t (g .node))) (go (ruleOf (g .kind) x) (eqb (ruleOf (g .kind) x) 0) refl)
     where
@@ -103,7 +102,7 @@ module _ (src t : List ℕ) (o : ℕ) (c : Bool) where
       ∙ path-told l r (step g r) refl refl (z .1)
 
   path-ruled : (p : List Rec) → Kinded t p → byPath src t o c p ≡ toldAt (gathered p .ruling) (gathered p .ruled)
-  unfolding gathered along byPath settled stepped ruleOf told
+  unfolding gathered along byPath settledBy stepped ruleOf told
   path-ruled [] z = refl
   path-ruled (r ∷ l) z = sym (else-none (byPath src t o c (r ∷ l))) ∙ path-told l r (step nothing r) refl refl z
 

@@ -3,10 +3,9 @@ use forest::stretch::child_from;
 use forest::stretch::rest_from;
 use path::gathered::Gathered;
 use path::gathered::NOTHING;
-use path::gathered::Next;
 use path::gathered::enter;
 use path::gathered::settle;
-use path::rules::chosen;
+use path::rules::rule_by_kind;
 use records::range::is_holder;
 use records::record::count_of;
 use records::record::kind_at;
@@ -27,39 +26,32 @@ pub fn find_node_path(table: &[u8], offset: usize) -> Gathered
     path_from(table, offset, first)
 }
 
-// The same, where no child of record 0 before the first that is named holds the offset. `child` is the first that holds it, 0 for none yet: it
-// ends the walk.
+// The same, where no child of record 0 before the first that is named holds the offset. Each turn enters the first record of a part, and seeks its
+// first child that holds the offset: the part from there on is the next.
 pub fn path_from(table: &[u8], offset: usize, first: usize) -> Gathered
     requires { ⌜ ((0 < count (now table)) × (count (now table) < wordLimit)) × Starts (now table) offset first ⌝ }
     ensures { λ r. ⌜ (r ≡ gathered (pathAt (now (table .entry)) offset)) × Within (count (now (table .entry))) r ⌝ }
 {
-    let mut g = enter(NOTHING, kind_at(table, 0), 0);
+    let mut g = NOTHING;
     let mut s = table;
     let mut base = 0;
-    let mut start = first;
+    let mut i = first;
     'descent: loop {
+        g = enter(g, kind_at(s, 0), base);
         let m = count_of(s);
-        let mut child = 0;
-        let mut i = start;
         let found = loop {
             if i >= m {
-                break child;
+                break 'descent;
             }
-            child = chosen(is_holder(s, i, offset), i, child);
-            if 0 < child {
-                break child;
+            if is_holder(s, i, offset) {
+                break i;
             }
             i = child_from(s, i + 1);
         };
-        if found == 0 {
-            break 'descent;
-        }
-        let kind = kind_at(s, found);
         let part = rest_from(s, found);
         base += found;
-        g = enter(g, kind, base);
-        start = child_from(part, 1);
+        i = child_from(part, 1);
         s = part;
     }
-    settle(g, Next::Deepest)
+    settle(g, rule_by_kind(g.kind))
 }

@@ -12,7 +12,7 @@ use Rattle.records.specs.Kinds.{joinConstraint}
 use Rattle.forest.specs.Descent.{along}
 use Rattle.path.specs.declared.gathered.Gathered.{Gathered}
 use Rattle.path.specs.Path.{deepestOr, deepest, onPath, trails, isSubquery}
-use Rattle.path.specs.inner.Gathered.{settled, stepped, nothing, gathered}
+use Rattle.path.specs.inner.Gathered.{settledBy, stepped, nothing, gathered}
 
 -- ---- the deepest statement, and the JoinConstraint
 
@@ -25,7 +25,7 @@ or-none true = refl
 or-none false = refl
 
 along-constrained : (l : List Rec) (g : Gathered) → along (λ g r. stepped g (r .kind) (r .index)) g l .constrained ≡ (g .constrained || onPath joinConstraint l)
-unfolding along onPath stepped settled
+unfolding along onPath stepped settledBy
 along-constrained [] g = sym (or-none (g .constrained))
 along-constrained (r ∷ l) g = along-constrained l _ ∙ (or-assoc (g .constrained) (eqb (r .kind) joinConstraint) (onPath joinConstraint l))
 
@@ -48,15 +48,15 @@ module _ (test : ℕ → Bool) (field : Gathered → ℕ)
       go false = e
 
 pub gathered-statement : (p : List Rec) → gathered p .statement ≡ numbered (deepest trails p)
-unfolding gathered settled stepped numbered
+unfolding gathered settledBy stepped numbered
 gathered-statement p = along-deepest trails (λ g. g .statement) (λ g r. refl) p nothing none refl
 
 -- ---- the context
 
 pub gathered-constrained : (p : List Rec) → gathered p .constrained ≡ onPath joinConstraint p
-unfolding gathered settled
+unfolding gathered settledBy
 gathered-constrained p = along-constrained p nothing
 
 pub gathered-query : (p : List Rec) → gathered p .query ≡ numbered (deepest isSubquery p)
-unfolding gathered settled stepped numbered
+unfolding gathered settledBy stepped numbered
 gathered-query p = along-deepest isSubquery (λ g. g .query) (λ g r. refl) p nothing none refl

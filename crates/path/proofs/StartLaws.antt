@@ -18,7 +18,7 @@ use Rattle.records.specs.Ranges.{holds}
 use Rattle.forest.proofs.Walks.{Walk, walk-start, walk-next}
 use Rattle.forest.proofs.Descents.{onward, Down, Level}
 use Rattle.path.specs.declared.gathered.Gathered.{Gathered}
-use Rattle.path.specs.declared.gathered.Next.the-variants.{Deepest}
+use Rattle.path.specs.Path.{Deepest}
 use Rattle.path.specs.inner.Gathered.{settled, stepped}
 use Rattle.path.specs.inner.Starts.{Starts}
 use Rattle.path.proofs.Steps.{way}

@@ -10,8 +10,6 @@ use Rattle.records.specs.Table.{records}
 use Rattle.forest.specs.Descent.{pathOf}
 use Rattle.records.specs.Ranges.{holds}
 use Rattle.records.specs.Kinds.{subqueryExpression, selectStatement, updateStatement}
-use Rattle.path.specs.declared.gathered.Next.{Next}
-use Rattle.path.specs.declared.gathered.Next.the-variants.{Deepest, Above}
 
 -- the path: record 0, then at each node the first child that holds the offset, both ends inclusive; an empty node holds none
 abbrev pub pathAt : List ℕ → ℕ → List Rec
@@ -38,6 +36,11 @@ onPath k (r ∷ rs) = eqb (r .kind) k || onPath k rs
 
 abbrev pub isSubquery : ℕ → Bool
 isSubquery k = eqb k subqueryExpression
+
+-- what stands next below a node of a path: nothing, or a node of this kind
+pub data Next : Type 0 where
+  Deepest : Next
+  Above : ℕ → Next
 
 -- what is next below a node, where these are the deeper nodes of the path
 unfoldable pub nextOf : List Rec → Next

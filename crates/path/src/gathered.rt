@@ -1,7 +1,7 @@
 // What a path gathers on the way down, for the rules that look at it.
 use crate::rules::NO_RULE;
 use crate::rules::chosen;
-use crate::rules::rule_of;
+use crate::rules::rule_over;
 use records::kinds::JOIN_CONSTRAINT;
 use records::kinds::OTHER_NODE;
 use records::kinds::SELECT_STATEMENT;
@@ -9,14 +9,8 @@ use records::kinds::SUBQUERY_EXPRESSION;
 use records::kinds::UPDATE_STATEMENT;
 ghost use mathlib.Core.Path.{_≡_};
 ghost use Prim.Native.Nat.{ℕ, _<_};
-ghost use Rattle.path.specs.inner.Gathered.{settled, stepped, Within};
+ghost use Rattle.path.specs.inner.Gathered.{settledBy, stepped, Within};
 ghost use Rattle.lent.specs.Numbers.{wordLimit};
-
-// What stands next below a node of the path: nothing, or a node of this kind.
-pub enum Next {
-    Deepest,
-    Above(usize),
-}
 
 // What the path's rules need of it. The deepest node so far, with its kind, and of those above it the deepest whose rule
 // applies, with the rule's number; the deepest statement and the deepest subquery, as the record's number plus one, 0 for
@@ -42,11 +36,10 @@ pub const NOTHING: Gathered = Gathered {
     constrained: false,
 };
 
-// What is next below the last node is known: if its rule applies, it is the one that decides.
-pub fn settle(g: Gathered, next: Next) -> Gathered
-    ensures { λ r. ⌜ (r ≡ settled g next) × ((n : ℕ) → Within n g → Within n r) ⌝ }
+// The last node is settled by this rule: if it applies, it is the one that decides.
+pub fn settle(g: Gathered, rule: usize) -> Gathered
+    ensures { λ r. ⌜ (r ≡ settledBy g rule) × ((n : ℕ) → Within n g → Within n r) ⌝ }
 {
-    let rule = rule_of(g.kind, next);
     let passes = rule == NO_RULE;
     Gathered {
         node: g.node,
@@ -64,7 +57,7 @@ pub fn enter(g: Gathered, kind: usize, i: usize) -> Gathered
     requires { ⌜ i < wordLimit ⌝ }
     ensures { λ r. ⌜ (r ≡ stepped g kind i) × ((n : ℕ) → Within n g → i < n → Within n r) ⌝ }
 {
-    let above = settle(g, Next::Above(kind));
+    let above = settle(g, rule_over(g.kind, kind));
     let is_statement = (SELECT_STATEMENT <= kind) & (kind <= UPDATE_STATEMENT);
     Gathered {
         node: i,

@@ -1,6 +1,5 @@
 // Which of document 01's path rules speaks of a node. Its numbers are those of contexts/specs/PathRules.antt: 1 is the trailing
 // rule, 14 the last.
-use crate::gathered::Next;
 use records::kinds::AGGREGATE_FUNCTION;
 use records::kinds::COLUMN_CODEC;
 use records::kinds::COLUMN_DEFINITION;
@@ -28,8 +27,8 @@ use records::kinds::TABLE_IDENTIFIER;
 use records::kinds::WHERE_CLAUSE;
 ghost use mathlib.Core.Path.{_≡_};
 ghost use mathlib.Core.Bool.{cond};
-ghost use Rattle.path.specs.Path.{isDeepest, deepestOver};
-ghost use Rattle.path.specs.inner.Rules.{ruleOf};
+ghost use Rattle.path.specs.Path.{Deepest, Above};
+ghost use Rattle.path.specs.inner.Rules.{ruleOf, appliesOver};
 
 pub const NO_RULE: usize = 0;
 
@@ -64,34 +63,14 @@ pub fn chosen(c: bool, new: usize, old: usize) -> usize
     if c { new } else { old }
 }
 
-// The node is deepest.
-fn is_deepest(next: Next) -> bool
-    ensures { λ r. ⌜ r ≡ isDeepest next ⌝ }
-{
-    match next {
-        Next::Deepest => true,
-        Next::Above(_) => false,
-    }
-}
-
-// The node is deepest, or one of the given kind is next below.
-fn deepest_over(next: Next, below: usize) -> bool
-    ensures { λ r. ⌜ r ≡ deepestOver below next ⌝ }
-{
-    match next {
-        Next::Deepest => true,
-        Next::Above(kind) => kind == below,
-    }
-}
-
-// The rule that speaks of a node of this kind, where it applies with this next below.
-pub fn rule_of(kind: usize, next: Next) -> usize
-    ensures { λ r. ⌜ r ≡ ruleOf kind next ⌝ }
+// The rule that speaks of a node of this kind, if it is deepest.
+pub fn rule_by_kind(kind: usize) -> usize
+    ensures { λ r. ⌜ r ≡ ruleOf kind Deepest ⌝ }
 {
     match kind {
         FROM_CLAUSE => FROM_RULE,
         JOIN_CLAUSE => JOIN_RULE,
-        INSERT_STATEMENT => chosen(deepest_over(next, TABLE_IDENTIFIER), INSERT_RULE, NO_RULE),
+        INSERT_STATEMENT => INSERT_RULE,
         SETTINGS_CLAUSE => SETTINGS_RULE,
         SETTING_LIST => SETTINGS_RULE,
         ENGINE_CLAUSE => ENGINE_RULE,
@@ -100,7 +79,7 @@ pub fn rule_of(kind: usize, next: Next) -> usize
         COLUMN_TYPE_DEFINITION => TYPE_RULE,
         DATA_TYPE => TYPE_RULE,
         DATA_TYPE_PARAMETERS => TYPE_RULE,
-        COLUMN_DEFINITION => chosen(deepest_over(next, ERROR), DEFINITION_RULE, NO_RULE),
+        COLUMN_DEFINITION => DEFINITION_RULE,
         COLUMN_CODEC => CODEC_RULE,
         FUNCTION_CALL => FUNCTION_RULE,
         AGGREGATE_FUNCTION => FUNCTION_RULE,
@@ -110,8 +89,28 @@ pub fn rule_of(kind: usize, next: Next) -> usize
         GROUP_BY_CLAUSE => COLUMN_RULE,
         HAVING_CLAUSE => COLUMN_RULE,
         ORDER_BY_CLAUSE => COLUMN_RULE,
-        FILE => chosen(is_deepest(next), START_RULE, NO_RULE),
-        QUERY_LIST => chosen(is_deepest(next), START_RULE, NO_RULE),
+        FILE => START_RULE,
+        QUERY_LIST => START_RULE,
         _ => NO_RULE,
     }
+}
+
+// Does a rule that speaks of the deepest node apply also where a node of this kind is next below?
+fn applies_over(rule: usize, below: usize) -> bool
+    ensures { λ r. ⌜ r ≡ appliesOver rule below ⌝ }
+{
+    match rule {
+        INSERT_RULE => below == TABLE_IDENTIFIER,
+        DEFINITION_RULE => below == ERROR,
+        START_RULE => false,
+        _ => true,
+    }
+}
+
+// The rule that speaks of a node of this kind, where it applies with a node of that kind next below.
+pub fn rule_over(kind: usize, below: usize) -> usize
+    ensures { λ r. ⌜ r ≡ ruleOf kind (Above below) ⌝ }
+{
+    let rule = rule_by_kind(kind);
+    chosen(applies_over(rule, below), rule, NO_RULE)
 }

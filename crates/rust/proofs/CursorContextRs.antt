@@ -33,8 +33,7 @@ use Rattle.contexts.specs.declared.trailing.Clause.{Clause}
 use Rattle.contexts.specs.declared.trailing.Clause.the-variants.{NoClause, Ends}
 use Rattle.contexts.specs.declared.context.Answer.{Answer}
 use Rattle.contexts.specs.declared.context.Answer.the-variants.{GoOn, Given}
-use Rattle.path.specs.declared.gathered.Next.{Next}
-use Rattle.path.specs.declared.gathered.Next.the-variants.{Deepest, Above}
+use Rattle.path.specs.Path.{Next, Deepest, Above}
 use Rattle.contexts.specs.declared.context.CursorContext.{CursorContext}
 use Rattle.contexts.specs.declared.context.CursorContext.the-variants.{SelectExpression, TableReference, Expression, SettingName, EngineName, FormatName, DataType, CodecName, StatementStart, Unknown}
 use Rattle.path.specs.Path.{pathAt, oneOf, deepestOr, deepest, onPath, trails, nextOf, isDeepest, deepestOver}

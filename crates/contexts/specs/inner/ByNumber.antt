@@ -7,7 +7,7 @@ use lib.Dec.{leb, eqb}
 use Rattle.records.specs.Table.{kindAt, startAt, endAt}
 use Rattle.forest.specs.Forest.{Forest, inside}
 use Rattle.records.specs.Kinds.{isNode}
-use Rattle.path.specs.declared.gathered.Next.the-variants.{Deepest}
+use Rattle.path.specs.Path.{Deepest}
 use Rattle.contexts.specs.declared.context.CursorContext.{CursorContext}
 use Rattle.contexts.specs.declared.context.CursorContext.the-variants.{Unknown}
 use Rattle.contexts.specs.declared.trailing.Clause.{Clause}

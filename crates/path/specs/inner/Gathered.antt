@@ -7,16 +7,14 @@ use lib.Dec.{eqb}
 use Rattle.records.specs.declared.record.Rec.{Rec}
 use Rattle.forest.specs.Descent.{along}
 use Rattle.records.specs.Kinds.{otherNode, joinConstraint, subqueryExpression}
-use Rattle.path.specs.declared.gathered.Next.{Next}
-use Rattle.path.specs.declared.gathered.Next.the-variants.{Deepest, Above}
+use Rattle.path.specs.Path.{Next, Deepest, Above}
 use Rattle.path.specs.declared.gathered.Gathered.{Gathered}
 use Rattle.path.specs.Path.{trails}
 use Rattle.path.specs.inner.Rules.{ruleOf}
 
--- the last node is settled: if its rule applies, it is the one that decides
-unfoldable pub settled : Gathered → Next → Gathered
-settled g n =
-    let rule : ℕ = ruleOf (g .kind) n in
+-- the last node is settled by this rule: if it applies, it is the one that decides
+unfoldable pub settledBy : Gathered → ℕ → Gathered
+settledBy g rule =
     let passes : Bool = eqb rule 0 in
     record {
       node = g .node;
@@ -27,6 +25,10 @@ settled g n =
       query = g .query;
       constrained = g .constrained;
     }
+
+-- by the rule that speaks of it, where this is next below
+abbrev pub settled : Gathered → Next → Gathered
+settled g n = settledBy g (ruleOf (g .kind) n)
 
 -- one step down, to node i, of kind k
 unfoldable pub stepped : Gathered → ℕ → ℕ → Gathered

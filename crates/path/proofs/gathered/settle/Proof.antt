@@ -1,5 +1,5 @@
 use Rattle.path.proofs.Steps.{settles}
-use Rattle.path.specs.inner.Gathered.{settled}
+use Rattle.path.specs.inner.Gathered.{settledBy}
 use borrow.Author.Needs.{needs}
 use Rattle.path.proofs.gathered.settle.Statement.{statement}
 use Rattle.path.proofs.gathered.settle.Tie as tie
@@ -8,7 +8,6 @@ pub settle-spec : {M : Type 1} → statement M
 settle-spec =
     tie.close
     (tie.spec
-    (λ c κs. search needs)  -- rule-of-requires
     (λ c κs. search needs)  -- chosen-requires
     (λ c κs. search needs)  -- chosen-requires-2
-    (λ c. settles _ _ _ (unfold settled in simp (c .before .before .rule-of .ensures, c .before .chosen .ensures, c .chosen2 .ensures))))  -- returns
+    (λ c. settles _ _ _ (unfold settledBy in simp (c .before .chosen .ensures, c .chosen2 .ensures))))  -- returns

@@ -1,25 +1,18 @@
 use Rattle.path.specs.inner.Rules.{ruleOf}
+use Rattle.path.specs.Path.{isDeepest, deepestOver}
 use borrow.Author.Tests.{ne-eqb}
 use borrow.Author.Needs.{needs}
-use Rattle.path.proofs.rules.rule_of.Statement.{statement}
-use Rattle.path.proofs.rules.rule_of.Tie as tie
+use Rattle.path.proofs.rules.rule_by_kind.Statement.{statement}
+use Rattle.path.proofs.rules.rule_by_kind.Tie as tie
 
-pub rule-of-spec : {M : Type 1} → statement M
-unfolding ruleOf
-rule-of-spec =
+pub rule-by-kind-spec : {M : Type 1} → statement M
+unfolding ruleOf isDeepest deepestOver
+rule-by-kind-spec =
     tie.close
     (tie.spec
-    (λ c κs. search needs)  -- deepest-over-requires
-    (λ c κs. search needs)  -- chosen-requires
-    (λ c κs. search needs)  -- deepest-over-requires-2
-    (λ c κs. search needs)  -- chosen-requires-2
-    (λ c κs. search needs)  -- is-deepest-requires
-    (λ c κs. search needs)  -- chosen-requires-3
-    (λ c κs. search needs)  -- is-deepest-requires-2
-    (λ c κs. search needs)  -- chosen-requires-4
     (λ c. rw (c .match .keys1))  -- returns
     (λ c. rw (c .match .keys2))  -- returns-2
-    (λ c. rw (c .before .before .match .keys3, ← c .before .deepest-over .ensures) (c .chosen .ensures))  -- returns-3
+    (λ c. rw (c .match .keys3))  -- returns-3
     (λ c. rw (c .match .keys4))  -- returns-4
     (λ c. rw (c .match .keys5))  -- returns-5
     (λ c. rw (c .match .keys6))  -- returns-6
@@ -28,7 +21,7 @@ rule-of-spec =
     (λ c. rw (c .match .keys9))  -- returns-9
     (λ c. rw (c .match .keys10))  -- returns-10
     (λ c. rw (c .match .keys11))  -- returns-11
-    (λ c. rw (c .before .before .match .keys12, ← c .before .deepest-over2 .ensures) (c .chosen2 .ensures))  -- returns-12
+    (λ c. rw (c .match .keys12))  -- returns-12
     (λ c. rw (c .match .keys13))  -- returns-13
     (λ c. rw (c .match .keys14))  -- returns-14
     (λ c. rw (c .match .keys15))  -- returns-15
@@ -38,6 +31,6 @@ rule-of-spec =
     (λ c. rw (c .match .keys19))  -- returns-19
     (λ c. rw (c .match .keys20))  -- returns-20
     (λ c. rw (c .match .keys21))  -- returns-21
-    (λ c. rw (c .before .before .match .keys22, ← c .before .is-deepest .ensures) (c .chosen3 .ensures))  -- returns-22
-    (λ c. rw (c .before .before .match .keys23, ← c .before .is-deepest2 .ensures) (c .chosen4 .ensures))  -- returns-23
+    (λ c. rw (c .match .keys22))  -- returns-22
+    (λ c. rw (c .match .keys23))  -- returns-23
     (λ c. let r = c .match .rest in simp (ne-eqb _ _ (r .0 .0 .0 .0 .0 .0 .0 .0 .0 .0 .0 .0 .0 .0 .0 .0 .0 .0 .0 .0 .0 .0 .1), ne-eqb _ _ (r .0 .0 .0 .0 .0 .0 .0 .0 .0 .0 .0 .0 .0 .0 .0 .0 .0 .0 .0 .0 .0 .1), ne-eqb _ _ (r .0 .0 .0 .0 .0 .0 .0 .0 .0 .0 .0 .0 .0 .0 .0 .0 .0 .0 .0 .0 .1), ne-eqb _ _ (r .0 .0 .0 .0 .0 .0 .0 .0 .0 .0 .0 .0 .0 .0 .0 .0 .0 .0 .0 .1), ne-eqb _ _ (r .0 .0 .0 .0 .0 .0 .0 .0 .0 .0 .0 .0 .0 .0 .0 .0 .0 .0 .1), ne-eqb _ _ (r .0 .0 .0 .0 .0 .0 .0 .0 .0 .0 .0 .0 .0 .0 .0 .0 .0 .1), ne-eqb _ _ (r .0 .0 .0 .0 .0 .0 .0 .0 .0 .0 .0 .0 .0 .0 .0 .0 .1), ne-eqb _ _ (r .0 .0 .0 .0 .0 .0 .0 .0 .0 .0 .0 .0 .0 .0 .0 .1), ne-eqb _ _ (r .0 .0 .0 .0 .0 .0 .0 .0 .0 .0 .0 .0 .0 .0 .1), ne-eqb _ _ (r .0 .0 .0 .0 .0 .0 .0 .0 .0 .0 .0 .0 .0 .1), ne-eqb _ _ (r .0 .0 .0 .0 .0 .0 .0 .0 .0 .0 .0 .0 .1), ne-eqb _ _ (r .0 .0 .0 .0 .0 .0 .0 .0 .0 .0 .0 .1), ne-eqb _ _ (r .0 .0 .0 .0 .0 .0 .0 .0 .0 .0 .1), ne-eqb _ _ (r .0 .0 .0 .0 .0 .0 .0 .0 .0 .1), ne-eqb _ _ (r .0 .0 .0 .0 .0 .0 .0 .0 .1), ne-eqb _ _ (r .0 .0 .0 .0 .0 .0 .0 .1), ne-eqb _ _ (r .0 .0 .0 .0 .0 .0 .1), ne-eqb _ _ (r .0 .0 .0 .0 .0 .1), ne-eqb _ _ (r .0 .0 .0 .0 .1), ne-eqb _ _ (r .0 .0 .0 .1), ne-eqb _ _ (r .0 .0 .1), ne-eqb _ _ (r .0 .1), ne-eqb _ _ (r .1))))  -- returns-24
