@@ -1,7 +1,7 @@
-use Rattle.names.specs.inner.Binders.{isList}
+use Rattle.binders.specs.inner.Binders.{isList}
 use borrow.Author.Needs.{needs}
-use Rattle.names.proofs.bindings.is_list.Statement.{statement}
-use Rattle.names.proofs.bindings.is_list.Tie as tie
+use Rattle.binders.proofs.binders.is_list.Statement.{statement}
+use Rattle.binders.proofs.binders.is_list.Tie as tie
 
 pub is-list-spec : {M : Type 1} → statement M
 unfolding isList

@@ -7,12 +7,12 @@ use lib.Dec.{eqb}
 use Rattle.records.specs.declared.record.Rec.{Rec}
 use Rattle.records.specs.Kinds.{withExpressionItem, columnList, expressionList, columnAlias}
 use Rattle.forest.specs.Forest.{Forest}
 use Rattle.names.specs.declared.names.NameBinding.{NameBinding}
 use Rattle.names.specs.declared.names.Bound.{Bound}
-use Rattle.names.specs.declared.bindings.Binder.{Binder}
-use Rattle.names.specs.declared.bindings.Binder.the-variants.{Item, Alias}
+use Rattle.binders.specs.declared.binders.Binder.{Binder}
+use Rattle.binders.specs.declared.binders.Binder.the-variants.{Item, Alias}
 use Rattle.names.specs.Names.{withItem, aliasIn}
 use Rattle.names.specs.Bindings.{boundIn}
 
 -- ---- WITH items or column aliases, by what binds the names
 

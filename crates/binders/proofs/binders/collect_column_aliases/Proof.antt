@@ -1,8 +1,8 @@
-use Rattle.names.proofs.Turns.{names-alias}
+use Rattle.binders.proofs.Turns.{names-alias}
 use native.Mathlib.Omega.{arith}
 use borrow.Author.Needs.{needs}
-use Rattle.names.proofs.bindings.collect_column_aliases.Statement.{statement}
-use Rattle.names.proofs.bindings.collect_column_aliases.Tie as tie
+use Rattle.binders.proofs.binders.collect_column_aliases.Statement.{statement}
+use Rattle.binders.proofs.binders.collect_column_aliases.Tie as tie
 
 pub collect-column-aliases-spec : {M : Type 1} → statement M
 collect-column-aliases-spec =

@@ -1,7 +1,7 @@
-use Rattle.names.specs.inner.Binders.{binds}
+use Rattle.binders.specs.inner.Binders.{binds}
 use borrow.Author.Needs.{needs}
-use Rattle.names.proofs.bindings.extract_bound.Statement.{statement}
-use Rattle.names.proofs.bindings.extract_bound.Tie as tie
+use Rattle.binders.proofs.binders.extract_bound.Statement.{statement}
+use Rattle.binders.proofs.binders.extract_bound.Tie as tie
 
 pub extract-bound-spec : {M : Type 1} → statement M
 unfolding binds

@@ -11,11 +11,11 @@ use Rattle.forest.specs.Forest.{Forest, nil, token, node, kids, stretchEnd}
 use Rattle.lent.proofs.Writes.{written-none}
 use Rattle.forest.proofs.Laws.{head-part}
 use Rattle.forest.proofs.Writing.{writing, writing-turn}
 use Rattle.names.specs.declared.names.Bound.{Bound}
-use Rattle.names.specs.declared.bindings.Binder.{Binder}
-use Rattle.names.specs.declared.bindings.Binder.the-variants.{Item, Alias}
+use Rattle.binders.specs.declared.binders.Binder.{Binder}
+use Rattle.binders.specs.declared.binders.Binder.the-variants.{Item, Alias}
 use Rattle.names.specs.Bindings.{entry, boundIn, withItems, selectAliases, bindingRow}
-use Rattle.names.specs.inner.Binders.{binderKind, isList, binds, names}
+use Rattle.binders.specs.inner.Binders.{binderKind, isList, binds, names}
 use Rattle.records.proofs.Fields.{kind-of}
 
 -- ---- bound names

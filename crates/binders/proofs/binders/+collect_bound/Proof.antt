@@ -1,6 +1,6 @@
-use Rattle.names.proofs.Turns.{names-pass, names-bind, names-list, names-over, names-none}
-use Rattle.names.specs.inner.Binders.{names}
+use Rattle.binders.proofs.Turns.{names-pass, names-bind, names-list, names-over, names-none}
+use Rattle.binders.specs.inner.Binders.{names}
 use Rattle.names.specs.Bindings.{bindingRow}
 use Rattle.lent.proofs.Writes.{written-none}
 use Rattle.forest.proofs.Writing.{writing, writing-turn, writing-end}
 use Rattle.forest.proofs.Walks.{walk-end}
@@ -13,15 +13,15 @@ use Prim.Native.Nat.{_+_, _-_, _*_, _≤_, ℕ, _<_}
 use native.Mathlib.Omega.{arith}
 use borrow.Fn.Kinds.{In}
 use borrow.Fn.PlainCycle.{Measures, is, falls, and}
-use Rattle.names.proofs.bindings.+collect_bound.{statement}
-use Rattle.names.proofs.bindings.+collect_bound.Tie.{close}
-use Rattle.names.proofs.bindings.collect_bound.Reads as collect-bound
-use Rattle.names.proofs.bindings.collect_bound.Kinds as collect-bound-kinds
-use Rattle.names.proofs.bindings.+collect_bound.Lts-collect_bound as collect-bound-lts
-use Rattle.names.proofs.bindings.extract_bound.Reads as extract-bound-reads
-use Rattle.names.proofs.bindings.is_binder.Reads as is-binder-reads
-use Rattle.names.proofs.bindings.is_list.Reads as is-list-reads
+use Rattle.binders.proofs.binders.+collect_bound.{statement}
+use Rattle.binders.proofs.binders.+collect_bound.Tie.{close}
+use Rattle.binders.proofs.binders.collect_bound.Reads as collect-bound
+use Rattle.binders.proofs.binders.collect_bound.Kinds as collect-bound-kinds
+use Rattle.binders.proofs.binders.+collect_bound.Lts-collect_bound as collect-bound-lts
+use Rattle.binders.proofs.binders.extract_bound.Reads as extract-bound-reads
+use Rattle.binders.proofs.binders.is_binder.Reads as is-binder-reads
+use Rattle.binders.proofs.binders.is_list.Reads as is-list-reads
 use Rattle.names.proofs.bindings.put_bound.Reads as put-bound-reads
 use Rattle.records.proofs.record.count_of.Reads as count-of-reads
 use Rattle.records.proofs.record.kind_at.Reads as kind-at-reads
 use Rattle.forest.proofs.nodes.node_from.Reads as node-from-reads

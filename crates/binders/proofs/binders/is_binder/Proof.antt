@@ -1,7 +1,7 @@
-use Rattle.names.specs.inner.Binders.{binderKind}
+use Rattle.binders.specs.inner.Binders.{binderKind}
 use borrow.Author.Needs.{needs}
-use Rattle.names.proofs.bindings.is_binder.Statement.{statement}
-use Rattle.names.proofs.bindings.is_binder.Tie as tie
+use Rattle.binders.proofs.binders.is_binder.Statement.{statement}
+use Rattle.binders.proofs.binders.is_binder.Tie as tie
 
 pub is-binder-spec : {M : Type 1} → statement M
 unfolding binderKind

@@ -1,8 +1,8 @@
-use Rattle.names.proofs.Turns.{names-item}
+use Rattle.binders.proofs.Turns.{names-item}
 use native.Mathlib.Omega.{arith}
 use borrow.Author.Needs.{needs}
-use Rattle.names.proofs.bindings.collect_ctes.Statement.{statement}
-use Rattle.names.proofs.bindings.collect_ctes.Tie as tie
+use Rattle.binders.proofs.binders.collect_ctes.Statement.{statement}
+use Rattle.binders.proofs.binders.collect_ctes.Tie as tie
 
 pub collect-ctes-spec : {M : Type 1} → statement M
 collect-ctes-spec =
