@@ -1,9 +1,9 @@
 // Collection: a node's own part, and then each child's.
 use crate::clauses::hands_on;
+use binders::binders::collect_column_aliases;
+use binders::binders::collect_ctes;
 use forest::nodes::node_from;
 use forest::stretch::stretch_of;
-use names::bindings::collect_column_aliases;
-use names::bindings::collect_ctes;
 use records::kinds::FROM_CLAUSE;
 use records::kinds::JOIN_CLAUSE;
 use records::kinds::SELECT_CLAUSE;

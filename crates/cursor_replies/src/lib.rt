@@ -8,7 +8,7 @@ ghost use lib.ListN.{length};
 ghost use Rattle.table.specs.Rules.{rules};
 ghost use Rattle.names.specs.Bindings.{bindingRow};
 ghost use Rattle.tables.specs.Tables.{referenceRow};
-ghost use Rattle.scope.specs.Scope.{tableAliases, columnAliases, tableRefs};
+ghost use Rattle.lists.specs.Scope.{tableAliases, columnAliases, tableRefs};
 ghost use Rattle.cursor_root.specs.Root.{rootAt};
 ghost use Rattle.replies.specs.Reply.{AnswersC};
 ghost use Rattle.offers.specs.WithNames.{withNamesAt};

@@ -20,7 +20,7 @@ use Rattle.table.specs.Rules.{rules, verdict}
 use Rattle.table.proofs.Exactly.{refused-exactly}
 use Rattle.names.specs.Bindings.{bindingRow}
 use Rattle.tables.specs.Tables.{referenceRow}
-use Rattle.scope.specs.Scope.{tableAliases, columnAliases, tableRefs}
+use Rattle.lists.specs.Scope.{tableAliases, columnAliases, tableRefs}
 use Rattle.contexts.specs.Context.{contextRow, contextBytes}
 use Rattle.cursor.specs.CursorContext.{contextAt}
 use Rattle.cursor_root.specs.Root.{rootAt}

@@ -18,7 +18,7 @@ use Rattle.table.proofs.Exactly.{admitted-exactly}
 use Rattle.forest.proofs.Places.{nodes-in-order}
 use Rattle.forest.proofs.Sense.{admitted-tidy}
 use Rattle.tables.specs.Tables.{referenceRow}
-use Rattle.scope.specs.Scope.{tableRefs}
+use Rattle.lists.specs.Scope.{tableRefs}
 use Rattle.roots.specs.Reach.{isRoot, refs, times}
 use Rattle.roots.specs.AllRoots.{RootIn, recordsIn, timesIn}
 use Rattle.roots.proofs.AllRoots.{exact, its-node, its-list, shown-times, sum-members}

@@ -16,7 +16,7 @@ use Rattle.names.specs.Bindings.{bindingRow}
 use Rattle.brackets.specs.declared.bracket_matching.Hint.{Hint}
 use Rattle.brackets.specs.Brackets.{openerRow}
 use Rattle.statement.specs.declared.statement.Enclosing.{Enclosing}
-use Rattle.scope.specs.Scope.{tableRefs}
+use Rattle.lists.specs.Scope.{tableRefs}
 use Rattle.cursor.specs.CursorContext.{contextAt}
 use Rattle.cursors.specs.Cursors.{offsetsOf}
 use Rattle.cursor_root.specs.Root.{rootAt}

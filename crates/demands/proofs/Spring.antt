@@ -10,7 +10,7 @@ use Rattle.table.specs.Rules.{verdict}
 use Rattle.forest.proofs.Sense.{admitted-tidy}
 use Rattle.names.specs.Bindings.{bindingRow}
 use Rattle.tables.specs.Tables.{referenceRow}
-use Rattle.scope.specs.Scope.{withNames}
+use Rattle.lists.specs.Scope.{withNames}
 use Rattle.cursor_root.proofs.RootLaws.{root-within}
 use Rattle.roots.specs.Nearest.{WithNamesFrom}
 use Rattle.roots.proofs.Covers.{one-root}

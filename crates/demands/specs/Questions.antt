@@ -8,9 +8,9 @@ use Rattle.forest.specs.Above.{above}
 use Rattle.above.specs.Above.{aboveRow}
 use Rattle.statement.specs.declared.statement.Enclosing.{Enclosing}
 use Rattle.statement.specs.declared.statement.Enclosing.the-variants.{Outside, Record}
-use Rattle.scope.specs.Classes.{classesOf, classRow}
+use Rattle.class_list.specs.Classes.{classesOf, classRow}
 use Rattle.brackets.specs.Brackets.{openersLeft, stackLeft, hintOf, openerRow}
-use Rattle.scope.specs.Scope.{withNames, tableAliases, columnAliases, tableRefs}
+use Rattle.lists.specs.Scope.{withNames, tableAliases, columnAliases, tableRefs}
 use Rattle.names.specs.Bindings.{bindingRow}
 use Rattle.tables.specs.Tables.{referenceRow}
 use Rattle.statement.specs.Statement.{enclosingAt}

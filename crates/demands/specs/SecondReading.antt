@@ -11,7 +11,7 @@ use mathlib.Core.List.{List, [], _∷_, _++_, map}
 use Rattle.records.specs.Table.{kindAt, recordAt, records}
 use Rattle.forest.specs.Forest.{Forest, kids}
 use Rattle.brackets.specs.Brackets.{indexOf, openerRow}
-use Rattle.scope.specs.Classes.{classRow}
+use Rattle.class_list.specs.Classes.{classRow}
 use Rattle.names.specs.Bindings.{bindingRow}
 use Rattle.tables.specs.declared.pending.TableRef.{TableRef}
 use Rattle.tables.specs.Tables.{referenceRow}

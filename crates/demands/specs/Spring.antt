@@ -23,7 +23,7 @@ use Rattle.names.specs.Names.{isAs, isPart, isName, direct, unquoted, nameOf, b
 use Rattle.names.specs.Bindings.{bindingRow}
 use Rattle.collection.specs.Collection.{nodeGives, collected, collection, ownWith, ownTables}
 use Rattle.tables.specs.Tables.{fresh, aliased, handOn, listAlias, tableReading, referenceRow}
-use Rattle.scope.specs.Scope.{withNames}
+use Rattle.lists.specs.Scope.{withNames}
 use Rattle.roots.specs.Nearest.{OneRoot, DeepestQuery, TableAliasOf, ColumnAliasOf, TableRefOf, OwnOrSeen}
 use Rattle.statement.specs.Statement.{orElse, firstFind, enclosingAt}
 use Rattle.path.specs.Path.{isSubquery, deepestOr, onPath, nextOf}

@@ -19,11 +19,11 @@ ghost use lib.ListN.{length};
 ghost use Rattle.table.specs.Rules.{rules, rootRules, numberRules, verdict};
 ghost use Rattle.forest.specs.Above.{above};
 ghost use Rattle.above.specs.Above.{aboveRow};
-ghost use Rattle.scope.specs.Classes.{classRow as classRow, classesOf};
+ghost use Rattle.class_list.specs.Classes.{classRow as classRow, classesOf};
 ghost use Rattle.brackets.specs.Brackets.{openerRow as openerRow, stackLeft, openersLeft, hintOf, hinted};
 ghost use Rattle.names.specs.Bindings.{bindingRow};
 ghost use Rattle.tables.specs.Tables.{referenceRow};
-ghost use Rattle.scope.specs.Scope.{withNames, tableAliases, columnAliases, tableRefs};
+ghost use Rattle.lists.specs.Scope.{withNames, tableAliases, columnAliases, tableRefs};
 ghost use Rattle.replies.specs.Reply.{verdictReply, hintReply, AnswersC};
 
 // The layout of records and entries, by its number: a host asks for it by its name, so that one of another layout does not link.

@@ -21,9 +21,9 @@ use Rattle.names.specs.Bindings.{bindingRow, bindingBytes}
 use Rattle.tables.specs.inner.Rows.{asRow}
 use Rattle.collection.specs.declared.collection.Asked.the-variants.{WithNames}
 use Rattle.collection.specs.Collection.{collectionOf}
-use Rattle.scope.specs.Scope.{withNames}
+use Rattle.lists.specs.Scope.{withNames}
 use Rattle.collection.specs.inner.Rows.{ownRows}
-use Rattle.scope.proofs.Lists.{with-rows}
+use Rattle.lists.proofs.ListLaws.{with-rows}
 use Rattle.statement.specs.Statement.{isStatement}
 use Rattle.forest.specs.Above.{aboveAmong, above}
 use Rattle.forest.specs.inner.Climbing.{Climbs}

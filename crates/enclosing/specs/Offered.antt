@@ -4,7 +4,7 @@
 use Prim.Native.Nat.{ℕ}
 use mathlib.Core.List.{List, [], _∷_, _++_}
 use Rattle.names.specs.declared.names.NameBinding.{NameBinding}
-use Rattle.scope.specs.Scope.{withNames}
+use Rattle.lists.specs.Scope.{withNames}
 use Rattle.seen.specs.Seen.{seenOf}
 use Rattle.enclosing.specs.Enclosing.{enclosingRoots}
 

@@ -12,7 +12,7 @@ use Rattle.lent.specs.Lists.{listBytes, roomRule, reply, buffer}
 use Rattle.table.specs.Rules.{rules}
 use Rattle.names.specs.Bindings.{bindingRow}
 use Rattle.tables.specs.Tables.{referenceRow}
-use Rattle.scope.specs.Scope.{tableAliases, columnAliases, tableRefs}
+use Rattle.lists.specs.Scope.{tableAliases, columnAliases, tableRefs}
 use Rattle.contexts.specs.Context.{contextRow}
 use Rattle.cursor.specs.CursorContext.{contextAt}
 use Rattle.cursor_root.specs.Root.{rootAt}

@@ -13,9 +13,9 @@ use Rattle.lent.specs.Lists.{listBytes, reply, listed}
 use Rattle.names.specs.Bindings.{bindingRow}
 use Rattle.tables.specs.Tables.{referenceRow}
 use Rattle.collection.specs.declared.collection.Asked.the-variants.{TableAliases, ColumnAliases, TableRefs}
-use Rattle.scope.specs.Scope.{tableAliases, columnAliases, tableRefs}
-use Rattle.scope.specs.inner.Rows.{rowsAt}
-use Rattle.scope.proofs.Lists.{alias-rows, column-rows, reference-rows}
+use Rattle.lists.specs.Scope.{tableAliases, columnAliases, tableRefs}
+use Rattle.lists.specs.inner.Rows.{rowsAt}
+use Rattle.lists.proofs.ListLaws.{alias-rows, column-rows, reference-rows}
 use Rattle.enclosing.specs.Offered.{offeredIn}
 use Rattle.four_lists.specs.inner.Counts.{entriesIn, countsIn}
 

@@ -2,8 +2,8 @@
 use collection::collection::Asked;
 use enclosing::enclosing::list_offered;
 use lent::list::Listed;
+use lists::lists::list_in;
 use rooms::rooms::Counts;
-use scope::scope::list_in;
 ghost use mathlib.Core.Path.{_≡_};
 ghost use mathlib.Core.List.{[]};
 ghost use Prim.Native.Nat.{_≤_, _<_};
@@ -14,8 +14,8 @@ ghost use Rattle.conditions.specs.Conditions.{mostRecords, mostDepth};
 ghost use Rattle.forest.specs.inner.Climbing.{Climbs};
 ghost use Rattle.names.specs.Bindings.{bindingRow};
 ghost use Rattle.tables.specs.Tables.{referenceRow};
-ghost use Rattle.scope.specs.Scope.{tableAliases, columnAliases, tableRefs};
-ghost use Rattle.scope.specs.inner.Rows.{rowsAt};
+ghost use Rattle.lists.specs.Scope.{tableAliases, columnAliases, tableRefs};
+ghost use Rattle.lists.specs.inner.Rows.{rowsAt};
 ghost use Rattle.enclosing.specs.Offered.{offeredIn};
 ghost use Rattle.four_lists.specs.inner.Counts.{entriesIn, countsIn};
 

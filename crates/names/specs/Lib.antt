@@ -1,4 +1,3 @@
 pub mod Bindings
 pub mod Names
-pub mod inner
 pub mod worked

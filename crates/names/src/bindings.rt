@@ -1,37 +1,15 @@
-// What the WITH items and the column aliases of a clause bind, written as entries.
+// A binding, written as an entry.
 use crate::names::Bound;
 use crate::names::NameBinding;
-use crate::names::extract_alias_name;
-use crate::names::extract_cte;
-use forest::nodes::node_from;
-use forest::stretch::stretch_of;
 use lent::list::put_entry;
 use lent::number::NUMBER_BYTES;
-use records::kinds::COLUMN_ALIAS;
-use records::kinds::COLUMN_LIST;
-use records::kinds::EXPRESSION_LIST;
-use records::kinds::WITH_EXPRESSION_ITEM;
-use records::record::count_of;
-use records::record::kind_at;
-ghost use mathlib.Core.Path.{_≡_};
 ghost use mathlib.Core.List.{[], _∷_};
-ghost use Prim.Native.Nat.{_+_, _*_, _≤_, _<_};
-ghost use lib.Dec.{eqb};
-ghost use Rattle.records.specs.Table.{count, recordAt, records};
-ghost use Rattle.forest.specs.Forest.{kids};
-ghost use Rattle.conditions.specs.Conditions.{mostRecords};
+ghost use Prim.Native.Nat.{_+_, _≤_, _<_};
 ghost use Rattle.lent.specs.Lists.{farthest, Written};
-ghost use Rattle.names.specs.Bindings.{entry, withItems, selectAliases, bindingBytes, bindingRow};
-ghost use Rattle.names.specs.inner.Binders.{binderKind, isList, binds, names};
+ghost use Rattle.names.specs.Bindings.{entry, bindingBytes, bindingRow};
 
 // How many bytes the entry of a binding takes: six numbers.
 pub const BINDING_BYTES: usize = 6 * NUMBER_BYTES;
-
-// What binds the names of a list: a WITH item or a column alias.
-pub enum Binder {
-    Item,
-    Alias,
-}
 
 // Writes a binding's entry from byte `at` on, if there is one, and returns where the next entry goes.
 pub fn put_bound(b: Bound, out: &mut [u8], at: usize) -> usize
@@ -58,93 +36,4 @@ fn put_binding(b: NameBinding, out: &mut [u8], at: usize) -> usize
         b.definition.end,
     ];
     put_entry(out, at, &row)
-}
-
-// Is a node of kind k what binds the names?
-fn is_binder(binder: Binder, k: usize) -> bool
-    ensures { λ r. ⌜ r ≡ eqb k (binderKind binder) ⌝ }
-{
-    match binder {
-        Binder::Item => k == WITH_EXPRESSION_ITEM,
-        Binder::Alias => k == COLUMN_ALIAS,
-    }
-}
-
-// Is a node of kind k a list that is gone through?
-fn is_list(binder: Binder, k: usize) -> bool
-    ensures { λ r. ⌜ r ≡ isList binder k ⌝ }
-{
-    match binder {
-        Binder::Item => k == COLUMN_LIST,
-        Binder::Alias => (k == COLUMN_LIST) | (k == EXPRESSION_LIST),
-    }
-}
-
-// What the first record of the stretch s binds.
-fn extract_bound(binder: Binder, s: &[u8], base: usize, source: &[u8]) -> Bound
-    requires { ⌜ (0 < count (now s)) × (base + count (now s) ≤ mostRecords) ⌝ }
-    ensures { λ r. ⌜ r ≡ binds binder (now (source .entry)) (recordAt (now (s .entry)) base 0) (kids (records base (now (s .entry)))) ⌝ }
-{
-    match binder {
-        Binder::Item => extract_cte(s, base, source),
-        Binder::Alias => extract_alias_name(s, base, source),
-    }
-}
-
-// Writes what the children of the stretch's first record bind into out from byte `at` on, also those in lists, and returns where the
-// next entry goes. The stretch's first record has the number base.
-fn collect_bound(
-    binder: Binder,
-    s: &[u8],
-    base: usize,
-    source: &[u8],
-    out: &mut [u8],
-    at: usize,
-) -> usize
-    requires { ⌜ (0 < count (now s)) × (base + count (now s) ≤ mostRecords) × (at + bindingBytes * count (now s) < farthest) ⌝ }
-    ensures { λ r. ⌜ Written bindingRow (names binder (now (source .entry)) (kids (records base (now (s .entry))))) (now (out .entry)) at (now (out .exit)) r
-        × (r ≤ at + bindingBytes * count (now (s .entry))) ⌝ }
-{
-    let m = count_of(s);
-    let mut next = at;
-    let mut i = node_from(s, 1);
-    while i < m {
-        let kind = kind_at(s, i);
-        if is_binder(binder, kind) {
-            let part = stretch_of(s, i);
-            next = put_bound(extract_bound(binder, part, base + i, source), out, next);
-            i = node_from(s, i + count_of(part));
-        } else if is_list(binder, kind) {
-            let part = stretch_of(s, i);
-            next = collect_bound(binder, part, base + i, source, out, next);
-            i = node_from(s, i + count_of(part));
-        } else {
-            i = node_from(s, i + 1);
-        }
-    }
-    next
-}
-
-// The items of a WITH clause, the first record of the stretch s.
-pub fn collect_ctes(s: &[u8], base: usize, source: &[u8], out: &mut [u8], at: usize) -> usize
-    requires { ⌜ (0 < count (now s)) × (base + count (now s) ≤ mostRecords) × (at + bindingBytes * count (now s) < farthest) ⌝ }
-    ensures { λ r. ⌜ Written bindingRow (withItems (now (source .entry)) (kids (records base (now (s .entry))))) (now (out .entry)) at (now (out .exit)) r
-        × (r ≤ at + bindingBytes * count (now (s .entry))) ⌝ }
-{
-    collect_bound(Binder::Item, s, base, source, out, at)
-}
-
-// The column aliases of a SELECT clause, the first record of the stretch s.
-pub fn collect_column_aliases(
-    s: &[u8],
-    base: usize,
-    source: &[u8],
-    out: &mut [u8],
-    at: usize,
-) -> usize
-    requires { ⌜ (0 < count (now s)) × (base + count (now s) ≤ mostRecords) × (at + bindingBytes * count (now s) < farthest) ⌝ }
-    ensures { λ r. ⌜ Written bindingRow (selectAliases (now (source .entry)) (kids (records base (now (s .entry))))) (now (out .entry)) at (now (out .exit)) r
-        × (r ≤ at + bindingBytes * count (now (s .entry))) ⌝ }
-{
-    collect_bound(Binder::Alias, s, base, source, out, at)
 }

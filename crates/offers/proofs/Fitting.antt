@@ -21,7 +21,7 @@ use Rattle.forest.proofs.Sense.{admitted-tidy}
 use Rattle.names.specs.Bindings.{bindingRow}
 use Rattle.path.specs.Path.{isSubquery}
 use Rattle.statement.specs.Statement.{isStatement}
-use Rattle.scope.specs.Scope.{withNames}
+use Rattle.lists.specs.Scope.{withNames}
 use Rattle.scope.proofs.Fitting.{with-names-fit, with-names-few}
 use Rattle.seen.specs.Seen.{seenOf}
 use Rattle.seen.proofs.Fitting.{seen-fits, seen-few}

@@ -3,7 +3,7 @@ use collection::collection::Asked;
 use cursor_root::root::root_at;
 use lent::list::Listed;
 use lent::verdict::Verdict;
-use scope::scope::list_in;
+use lists::lists::list_in;
 use table::check::check;
 ghost use lib.ListN.{length};
 ghost use Rattle.table.specs.Rules.{rules};
@@ -11,8 +11,8 @@ ghost use Rattle.lent.specs.Lists.{Answers};
 ghost use Rattle.names.specs.Bindings.{bindingRow};
 ghost use Rattle.tables.specs.Tables.{referenceRow};
 ghost use Rattle.tables.specs.inner.Rows.{asRow};
-ghost use Rattle.scope.specs.Scope.{tableAliases, columnAliases, tableRefs};
-ghost use Rattle.scope.specs.inner.Rows.{rowsAt};
+ghost use Rattle.lists.specs.Scope.{tableAliases, columnAliases, tableRefs};
+ghost use Rattle.lists.specs.inner.Rows.{rowsAt};
 ghost use Rattle.cursor_root.specs.Root.{rootAt};
 
 // One list at the offset: that of the cursor's root. The table is checked once.

@@ -8,7 +8,7 @@ ghost use lib.ListN.{length};
 ghost use Rattle.table.specs.Rules.{rootRules};
 ghost use Rattle.names.specs.Bindings.{bindingRow};
 ghost use Rattle.tables.specs.Tables.{referenceRow};
-ghost use Rattle.scope.specs.Scope.{withNames, tableAliases, columnAliases, tableRefs};
+ghost use Rattle.lists.specs.Scope.{withNames, tableAliases, columnAliases, tableRefs};
 ghost use Rattle.replies.specs.Reply.{AnswersC};
 
 // The WITH names of a root. High half of an answer: the entries written.

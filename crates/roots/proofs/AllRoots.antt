@@ -31,7 +31,7 @@ use Rattle.forest.proofs.Sense.{admitted-tidy}
 use Rattle.tables.specs.declared.pending.TableRef.{TableRef}
 use Rattle.collection.specs.Collection.{collection, ownTables}
 use Rattle.tables.specs.Tables.{references, referenceBytes, referenceRow}
-use Rattle.scope.specs.Scope.{tableRefs}
+use Rattle.lists.specs.Scope.{tableRefs}
 use Rattle.roots.specs.Reach.{refs, times, Exact}
 use Rattle.roots.specs.AllRoots.{RootIn, recordsIn, timesIn}
 use Rattle.roots.proofs.Exact.{table-exact}

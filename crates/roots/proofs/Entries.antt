@@ -21,7 +21,7 @@ use Rattle.tables.specs.declared.pending.Pending.{Pending}
 use Rattle.tables.specs.declared.pending.Pending.the-variants.{Nothing, Held}
 use Rattle.tables.specs.Tables.{fresh, aliased, handOn, listAlias, tableReading, references, aliases}
 use Rattle.collection.specs.Collection.{ownWith, ownColumns, ownTables, collectionAt}
-use Rattle.scope.specs.Scope.{withNames, tableAliases, columnAliases, tableRefs}
+use Rattle.lists.specs.Scope.{withNames, tableAliases, columnAliases, tableRefs}
 use Rattle.roots.specs.Nearest.{EntryOf, aliasAt, columnAt, referenceAt, itemAt, TableAliasOf, ColumnAliasOf, TableRefOf, WithNameOf}
 use Rattle.roots.proofs.Nearest.{in-none, Met, clause-of, in-bound, in-reading}
 use Rattle.roots.proofs.Covers.{Cover, inside-cover, apart-below, nearest-in}

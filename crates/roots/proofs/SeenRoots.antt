@@ -18,7 +18,7 @@ use Rattle.names.specs.declared.names.NameBinding.{NameBinding}
 use Rattle.names.specs.declared.names.Bound.the-variants.{Named}
 use Rattle.names.specs.Names.{withItem}
 use Rattle.names.specs.Bindings.{entry}
-use Rattle.scope.specs.Scope.{withNames}
+use Rattle.lists.specs.Scope.{withNames}
 use Rattle.path.specs.Path.{isSubquery}
 use Rattle.statement.specs.Statement.{isStatement}
 use Rattle.forest.specs.Above.{standsBelow, aboveAmong, above}

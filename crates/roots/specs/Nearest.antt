@@ -17,7 +17,7 @@ use Rattle.names.specs.Names.{withItem, aliasIn}
 use Rattle.tables.specs.declared.pending.TableRef.{TableRef}
 use Rattle.tables.specs.Tables.{references, aliases}
 use Rattle.collection.specs.Collection.{ownWith, ownColumns, ownTables}
-use Rattle.scope.specs.Scope.{withNames}
+use Rattle.lists.specs.Scope.{withNames}
 use Rattle.path.specs.Path.{pathAt, isSubquery}
 use Rattle.forest.specs.Above.{standsBelow}
 use Rattle.enclosing.specs.Enclosing.{enclosingRoots}

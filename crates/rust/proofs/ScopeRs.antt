@@ -34,7 +34,7 @@ use Rattle.collection.specs.Collection.{nodeGives, collected, collection, ownWi
 use Rattle.names.specs.Bindings.{entry, boundIn, withItems, selectAliases}
 use Rattle.tables.specs.Tables.{fresh, aliased, Listing, handOn, listAlias, tableReading, references, aliases}
 use Rattle.statement.specs.Statement.{itself, isStatement, orElse, firstFind, enclosingAt}
-use Rattle.scope.proofs.Lists.{mapped, collection-map, tables-map}
+use Rattle.lists.proofs.ListLaws.{mapped, collection-map, tables-map}
 use Rattle.roots.specs.Reach.{oneOrTwo, hasOneOrTwo}
 use Rattle.roots.proofs.Counts.{decide}
 use Rattle.rust.specs.Rust.{Call, stops, gives, _>>=_, push, Askable}

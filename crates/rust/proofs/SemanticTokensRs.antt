@@ -19,9 +19,9 @@ use Rattle.forest.specs.Sense.{Tidy, Linked, inOrder, byDepth, treeOf}
 use Rattle.lent.specs.Text.{text}
 use Rattle.classes.specs.declared.token_class.TokenClass.{TokenClass}
 use Rattle.classes.specs.declared.token_class.TokenClass.the-variants.{Keyword, Function, StringLiteral, Number, Comment, Operator, Variable, TypeName, Parameter, Property, Unclassed}
-use Rattle.scope.specs.declared.semantic_tokens.ClassedToken.{ClassedToken}
+use Rattle.class_list.specs.declared.class_list.ClassedToken.{ClassedToken}
 use Rattle.keywords.specs.Keywords.{isKeyword}
-use Rattle.scope.specs.Classes.{classesOf, entryWith, entryOf, classes}
+use Rattle.class_list.specs.Classes.{classesOf, entryWith, entryOf, classes}
 use Rattle.classes.specs.TokenClass.{between, judged, bareword, byParent, classOf, numberOf}
 use Rattle.forest.proofs.Orders.{tidy-ordered}
 use Rattle.forest.proofs.Sense.{admitted-tidy, whole-tree}

@@ -20,7 +20,7 @@ use Rattle.statement.specs.declared.statement.Enclosing.the-variants.{Outside, 
 use Rattle.records.specs.Ranges.{absent, span}
 use Rattle.names.specs.Names.{byteAt, isMark, isName, direct}
 use Rattle.collection.specs.Collection.{collection}
-use Rattle.scope.specs.Scope.{withNames, tableAliases, columnAliases, tableRefs}
+use Rattle.lists.specs.Scope.{withNames, tableAliases, columnAliases, tableRefs}
 use Rattle.statement.specs.Statement.{enclosingAt}
 use Rattle.path.specs.Path.{oneOf}
 use Rattle.roots.specs.Reach.{hasOneOrTwo}

@@ -12,9 +12,9 @@ use Rattle.records.specs.Kinds.{tableIdentifier, tableExpression, tableAlias, c
 use Rattle.records.specs.Table.{kindAt, records}
 use Rattle.forest.specs.Forest.{Forest, nil, token, node, kids}
 use Rattle.lent.specs.Text.{bytesOf, upperWord, text}
-use Rattle.scope.specs.declared.semantic_tokens.ClassedToken.{ClassedToken}
+use Rattle.class_list.specs.declared.class_list.ClassedToken.{ClassedToken}
 use Rattle.keywords.specs.Keywords.{keywords, elem}
-use Rattle.scope.specs.Classes.{classesOf}
+use Rattle.class_list.specs.Classes.{classesOf}
 use Rattle.path.specs.Path.{oneOf}
 use Rattle.rust.specs.Rust.{Call, gives, _>>=_, slice, push}
 

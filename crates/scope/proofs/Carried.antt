@@ -19,10 +19,10 @@ use Rattle.forest.proofs.Owned.{Own, tree-own}
 use Rattle.forest.proofs.Sense.{admitted-tidy, carried-tree}
 use Rattle.forest.proofs.Above.{climbs}
 use Rattle.classes.specs.TokenClass.{classOf}
-use Rattle.scope.specs.declared.semantic_tokens.ClassedToken.{ClassedToken}
-use Rattle.scope.specs.Classes.{entryOf, classes, classesOf}
-use Rattle.scope.specs.inner.Carried.{givenAt, givenBelow, Carries}
-use Rattle.scope.proofs.ClassLaws.{below-next}
+use Rattle.class_list.specs.declared.class_list.ClassedToken.{ClassedToken}
+use Rattle.class_list.specs.Classes.{entryOf, classes, classesOf}
+use Rattle.class_list.specs.inner.Carried.{givenAt, givenBelow, Carries}
+use Rattle.class_list.proofs.ClassLaws.{below-next}
 
 module _ (src t : List ℕ) where
   -- what a record with its parent's number gives

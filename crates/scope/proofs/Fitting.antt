@@ -33,8 +33,8 @@ use Rattle.tables.specs.Tables.{references, aliases, tableReading, referenceRow
 use Rattle.tables.proofs.Fitting.{read-fits, aliases-fit, read-few}
 use Rattle.collection.specs.Collection.{ownWith, ownColumns, ownTables}
 use Rattle.collection.proofs.Fitting.{collection-fits, collection-few}
-use Rattle.scope.specs.Classes.{entryWith, entryOf, classRow, classes, classesOf}
-use Rattle.scope.specs.Scope.{withNames, tableAliases, columnAliases, tableRefs}
+use Rattle.class_list.specs.Classes.{entryWith, entryOf, classRow, classes, classesOf}
+use Rattle.lists.specs.Scope.{withNames, tableAliases, columnAliases, tableRefs}
 
 -- ---- the classes
 

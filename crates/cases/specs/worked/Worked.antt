@@ -18,7 +18,7 @@ use Rattle.forest.specs.Tokens.{only, tokensOf}
 use Rattle.forest.specs.Descent.{path, pathOf, along}
 use Rattle.keywords.specs.Keywords.{isKeyword, keywords}
 use Rattle.classes.specs.TokenClass.{between, judged, bareword, byParent, classOf, numberOf}
-use Rattle.scope.specs.Classes.{entryWith, entryOf, classes}
+use Rattle.class_list.specs.Classes.{entryWith, entryOf, classes}
 use Rattle.brackets.specs.Brackets.{fits, closed, stackStep, left}
 use Rattle.names.specs.Names.{isAs, isPart, isName, direct, unquoted, nameOf, binding, firstNamed, lastNamed}
 use Rattle.collection.specs.Collection.{nodeGives, collected, collection, ownWith, ownColumns, ownTables}

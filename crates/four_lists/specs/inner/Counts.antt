@@ -6,7 +6,7 @@ use mathlib.Core.List.{List}
 use lib.ListN.{length}
 use Rattle.lent.specs.declared.list.Listed.{Listed}
 use Rattle.lent.specs.declared.list.Listed.the-variants.{Entries, Refused as Denied}
-use Rattle.scope.specs.Scope.{tableAliases, columnAliases, tableRefs}
+use Rattle.lists.specs.Scope.{tableAliases, columnAliases, tableRefs}
 use Rattle.enclosing.specs.Offered.{offeredIn}
 use Rattle.rooms.specs.declared.rooms.Counts.{Counts}
 

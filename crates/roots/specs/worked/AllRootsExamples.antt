@@ -20,7 +20,7 @@ use Rattle.names.specs.Names.{isPart, direct}
 use Rattle.tables.specs.declared.pending.TableRef.{TableRef}
 use Rattle.tables.specs.Tables.{fresh, handOn, tableReading}
 use Rattle.collection.specs.Collection.{nodeGives, collected, collection, ownTables}
-use Rattle.scope.specs.Scope.{tableRefs}
+use Rattle.lists.specs.Scope.{tableRefs}
 use Rattle.roots.specs.Reach.{isTop, isRoot, oneOrTwo, isTableName, rootIs, upToRoot, every, reach, reaching, reaches}
 
 -- WITH .. FROM w; FROM a, (b) JOIN c; WHERE .. (.. FROM d)

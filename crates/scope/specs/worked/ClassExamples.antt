@@ -9,10 +9,10 @@ use Rattle.forest.specs.Forest.{level, kids}
 use Rattle.lent.specs.Text.{bytesOf, upper, text}
 use Rattle.table.specs.worked.Worked.{rec}
 use Rattle.classes.specs.declared.token_class.TokenClass.the-variants.{Keyword, Function, StringLiteral, Number, Comment, Operator, Variable, TypeName, Parameter, Property, Unclassed}
-use Rattle.scope.specs.declared.semantic_tokens.ClassedToken.{ClassedToken}
+use Rattle.class_list.specs.declared.class_list.ClassedToken.{ClassedToken}
 use Rattle.keywords.specs.Keywords.{keywords, isKeyword}
 use Rattle.classes.specs.TokenClass.{between, judged, bareword, byParent, classOf, numberOf}
-use Rattle.scope.specs.Classes.{entryWith, entryOf, classes, classesOf}
+use Rattle.class_list.specs.Classes.{entryWith, entryOf, classes, classesOf}
 
 -- ---- each class, by the token's kind
 

@@ -12,7 +12,7 @@ use Rattle.names.specs.Names.{isAs, isPart, isName, direct, unquoted, nameOf, b
 use Rattle.collection.specs.Collection.{nodeGives, collected, collection, ownWith, ownColumns, ownTables}
 use Rattle.names.specs.Bindings.{entry, boundIn, bindingRow}
 use Rattle.tables.specs.Tables.{fresh, aliased, handOn, listAlias, tableReading, referenceRow}
-use Rattle.scope.specs.Scope.{withNames, tableAliases, columnAliases, tableRefs}
+use Rattle.lists.specs.Scope.{withNames, tableAliases, columnAliases, tableRefs}
 
 abbrev none : ℕ
 none = 4294967295

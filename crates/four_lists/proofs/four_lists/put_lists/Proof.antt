@@ -1,4 +1,4 @@
-use Rattle.scope.proofs.Lists.{alias-rows, column-rows, reference-rows, question}
+use Rattle.lists.proofs.ListLaws.{alias-rows, column-rows, reference-rows, question}
 use Rattle.names.specs.Bindings.{bindingRow}
 use Rattle.tables.specs.Tables.{referenceRow}
 use mathlib.Core.List.{[]}

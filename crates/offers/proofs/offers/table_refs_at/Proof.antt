@@ -1,4 +1,4 @@
-use Rattle.scope.proofs.Lists.{question, reference-rows}
+use Rattle.lists.proofs.ListLaws.{question, reference-rows}
 use Rattle.tables.specs.Tables.{referenceRow}
 use borrow.Author.Needs.{needs}
 use Rattle.offers.proofs.offers.table_refs_at.Statement.{statement}

@@ -1,4 +1,4 @@
-use Rattle.scope.specs.Classes.{classRow}
+use Rattle.class_list.specs.Classes.{classRow}
 use Rattle.keywords.specs.inner.KeywordTable.{keywordBytes}
 use Rattle.keywords.specs.Keywords.{keywords}
 use Rattle.forest.proofs.Sense.{admitted-tidy}
