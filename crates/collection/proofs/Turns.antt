@@ -11,7 +11,7 @@ use Rattle.records.specs.Kinds.{withClause, selectClause, fromClause, joinClaus
 use Rattle.records.specs.Table.{count, kindAt, recordAt, records, part}
 use Rattle.forest.specs.Forest.{Forest, nil, node, kids, stretchEnd}
 use Rattle.forest.proofs.Laws.{head-part}
-use Rattle.tables.specs.declared.pending.Pending.the-variants.{Nothing}
+use Rattle.references.specs.declared.pending.Pending.the-variants.{Nothing}
 use Rattle.tables.specs.declared.tables.Reads.the-variants.{Aliases, References}
 use Rattle.collection.specs.declared.collection.Asked.the-variants.{WithNames, TableAliases, ColumnAliases, TableRefs}
 use Rattle.names.specs.Bindings.{withItems, selectAliases, bindingRow}

@@ -9,7 +9,7 @@ use Rattle.records.specs.declared.record.Rec.{Rec}
 use Rattle.records.specs.Kinds.{withClause, selectClause, fromClause, joinClause, subqueryExpression}
 use Rattle.forest.specs.Forest.{Forest, nil, token, node, kids, stretchEnd}
 use Rattle.names.specs.declared.names.NameBinding.{NameBinding}
-use Rattle.tables.specs.declared.pending.Pending.the-variants.{Nothing}
+use Rattle.references.specs.declared.pending.Pending.the-variants.{Nothing}
 use Rattle.names.specs.Bindings.{withItems, selectAliases}
 use Rattle.tables.specs.Tables.{Listing, tableReading}
 use Rattle.records.specs.Table.{recordAt, records, part}

@@ -7,7 +7,7 @@ use replies::reply::list_reply;
 ghost use lib.ListN.{length};
 ghost use Rattle.table.specs.Rules.{rules};
 ghost use Rattle.names.specs.Bindings.{bindingRow};
-ghost use Rattle.tables.specs.Tables.{referenceRow};
+ghost use Rattle.references.specs.References.{referenceRow};
 ghost use Rattle.lists.specs.Scope.{tableAliases, columnAliases, tableRefs};
 ghost use Rattle.cursor_root.specs.Root.{rootAt};
 ghost use Rattle.replies.specs.Reply.{AnswersC};

@@ -19,7 +19,7 @@ use Rattle.lent.specs.Lists.{rowBytes, listBytes, roomRule, listVerdict, reply,
 use Rattle.table.specs.Rules.{rules, verdict}
 use Rattle.table.proofs.Exactly.{refused-exactly}
 use Rattle.names.specs.Bindings.{bindingRow}
-use Rattle.tables.specs.Tables.{referenceRow}
+use Rattle.references.specs.References.{referenceRow}
 use Rattle.lists.specs.Scope.{tableAliases, columnAliases, tableRefs}
 use Rattle.contexts.specs.Context.{contextRow, contextBytes}
 use Rattle.cursor.specs.CursorContext.{contextAt}

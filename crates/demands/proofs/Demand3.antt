@@ -17,7 +17,7 @@ use Rattle.forest.specs.Places.{Place, nodesOf}
 use Rattle.table.proofs.Exactly.{admitted-exactly}
 use Rattle.forest.proofs.Places.{nodes-in-order}
 use Rattle.forest.proofs.Sense.{admitted-tidy}
-use Rattle.tables.specs.Tables.{referenceRow}
+use Rattle.references.specs.References.{referenceRow}
 use Rattle.lists.specs.Scope.{tableRefs}
 use Rattle.roots.specs.Reach.{isRoot, refs, times}
 use Rattle.roots.specs.AllRoots.{RootIn, recordsIn, timesIn}

@@ -33,7 +33,7 @@ use Rattle.statement.specs.declared.statement.Enclosing.the-variants.{Outside, 
 use Rattle.statement.specs.Statement.{enclosingAt}
 use Rattle.statement.proofs.Fitting.{statement-within}
 use Rattle.names.specs.Bindings.{bindingRow}
-use Rattle.tables.specs.Tables.{referenceRow}
+use Rattle.references.specs.References.{referenceRow}
 use Rattle.class_list.specs.Classes.{classesOf, classRow}
 use Rattle.lists.specs.Scope.{withNames, tableAliases, columnAliases, tableRefs}
 use Rattle.scope.proofs.Fitting.{classes-fit, classes-few, references-fit, references-few, with-names-fit, with-names-few, table-aliases-fit, table-aliases-few, column-aliases-fit, column-aliases-few}

@@ -9,7 +9,7 @@ use Rattle.records.specs.Table.{count}
 use Rattle.table.specs.Rules.{verdict}
 use Rattle.forest.proofs.Sense.{admitted-tidy}
 use Rattle.names.specs.Bindings.{bindingRow}
-use Rattle.tables.specs.Tables.{referenceRow}
+use Rattle.references.specs.References.{referenceRow}
 use Rattle.lists.specs.Scope.{withNames}
 use Rattle.cursor_root.proofs.RootLaws.{root-within}
 use Rattle.roots.specs.Nearest.{WithNamesFrom}

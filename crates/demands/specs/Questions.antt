@@ -12,7 +12,7 @@ use Rattle.class_list.specs.Classes.{classesOf, classRow}
 use Rattle.brackets.specs.Brackets.{openersLeft, stackLeft, hintOf, openerRow}
 use Rattle.lists.specs.Scope.{withNames, tableAliases, columnAliases, tableRefs}
 use Rattle.names.specs.Bindings.{bindingRow}
-use Rattle.tables.specs.Tables.{referenceRow}
+use Rattle.references.specs.References.{referenceRow}
 use Rattle.statement.specs.Statement.{enclosingAt}
 use Rattle.contexts.specs.Context.{contextRow}
 use Rattle.cursor.specs.CursorContext.{contextAt}

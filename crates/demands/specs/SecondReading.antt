@@ -13,8 +13,8 @@ use Rattle.forest.specs.Forest.{Forest, kids}
 use Rattle.brackets.specs.Brackets.{indexOf, openerRow}
 use Rattle.class_list.specs.Classes.{classRow}
 use Rattle.names.specs.Bindings.{bindingRow}
-use Rattle.tables.specs.declared.pending.TableRef.{TableRef}
-use Rattle.tables.specs.Tables.{referenceRow}
+use Rattle.references.specs.declared.pending.TableRef.{TableRef}
+use Rattle.references.specs.References.{referenceRow}
 use Rattle.contexts.specs.declared.context.CursorContext.{CursorContext as Context}
 use Rattle.contexts.specs.Context.{contextRow}
 use Rattle.cursors.specs.Cursors.{offsetsOf}

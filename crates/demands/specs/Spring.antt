@@ -22,7 +22,8 @@ use Rattle.table.specs.worked.Worked.{rec, child}
 use Rattle.names.specs.Names.{isAs, isPart, isName, direct, unquoted, nameOf, binding, lastNamed}
 use Rattle.names.specs.Bindings.{bindingRow}
 use Rattle.collection.specs.Collection.{nodeGives, collected, collection, ownWith, ownTables}
-use Rattle.tables.specs.Tables.{fresh, aliased, handOn, listAlias, tableReading, referenceRow}
+use Rattle.references.specs.References.{fresh, referenceRow}
+use Rattle.tables.specs.Tables.{aliased, handOn, listAlias, tableReading}
 use Rattle.lists.specs.Scope.{withNames}
 use Rattle.roots.specs.Nearest.{OneRoot, DeepestQuery, TableAliasOf, ColumnAliasOf, TableRefOf, OwnOrSeen}
 use Rattle.statement.specs.Statement.{orElse, firstFind, enclosingAt}

@@ -20,7 +20,7 @@ ghost use mathlib.Core.List.{[], _∷_};
 ghost use lib.ListN.{length};
 ghost use Rattle.table.specs.Rules.{rules, offsetRules, verdict};
 ghost use Rattle.names.specs.Bindings.{bindingRow};
-ghost use Rattle.tables.specs.Tables.{referenceRow};
+ghost use Rattle.references.specs.References.{referenceRow};
 ghost use Rattle.lists.specs.Scope.{tableAliases, columnAliases, tableRefs};
 ghost use Rattle.statement.specs.Statement.{enclosingAt, statementReply};
 ghost use Rattle.contexts.specs.Context.{contextRow};

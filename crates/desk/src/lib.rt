@@ -22,7 +22,7 @@ ghost use Rattle.above.specs.Above.{aboveRow};
 ghost use Rattle.class_list.specs.Classes.{classRow as classRow, classesOf};
 ghost use Rattle.brackets.specs.Brackets.{openerRow as openerRow, stackLeft, openersLeft, hintOf, hinted};
 ghost use Rattle.names.specs.Bindings.{bindingRow};
-ghost use Rattle.tables.specs.Tables.{referenceRow};
+ghost use Rattle.references.specs.References.{referenceRow};
 ghost use Rattle.lists.specs.Scope.{withNames, tableAliases, columnAliases, tableRefs};
 ghost use Rattle.replies.specs.Reply.{verdictReply, hintReply, AnswersC};
 

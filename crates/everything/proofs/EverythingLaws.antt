@@ -19,7 +19,7 @@ use Rattle.lent.proofs.Verdicts.{then-refused, then-admitted, unbroken}
 use Rattle.lent.proofs.Writes.{length-wide, written-one, written-whole}
 use Rattle.table.specs.Rules.{rules}
 use Rattle.names.specs.Bindings.{bindingRow, bindingBytes}
-use Rattle.tables.specs.Tables.{referenceRow, referenceBytes}
+use Rattle.references.specs.References.{referenceRow, referenceBytes}
 use Rattle.lists.specs.Scope.{tableAliases, columnAliases, tableRefs}
 use Rattle.contexts.specs.Context.{contextRow}
 use Rattle.cursor.specs.CursorContext.{contextAt}

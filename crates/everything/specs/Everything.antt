@@ -11,7 +11,7 @@ use Rattle.lent.specs.Verdicts.{Rule, first}
 use Rattle.lent.specs.Lists.{listBytes, roomRule, reply, buffer}
 use Rattle.table.specs.Rules.{rules}
 use Rattle.names.specs.Bindings.{bindingRow}
-use Rattle.tables.specs.Tables.{referenceRow}
+use Rattle.references.specs.References.{referenceRow}
 use Rattle.lists.specs.Scope.{tableAliases, columnAliases, tableRefs}
 use Rattle.contexts.specs.Context.{contextRow}
 use Rattle.cursor.specs.CursorContext.{contextAt}

@@ -13,7 +13,7 @@ ghost use Rattle.records.specs.Table.{count, depthAt};
 ghost use Rattle.conditions.specs.Conditions.{mostRecords, mostDepth};
 ghost use Rattle.forest.specs.inner.Climbing.{Climbs};
 ghost use Rattle.names.specs.Bindings.{bindingRow};
-ghost use Rattle.tables.specs.Tables.{referenceRow};
+ghost use Rattle.references.specs.References.{referenceRow};
 ghost use Rattle.lists.specs.Scope.{tableAliases, columnAliases, tableRefs};
 ghost use Rattle.lists.specs.inner.Rows.{rowsAt};
 ghost use Rattle.enclosing.specs.Offered.{offeredIn};

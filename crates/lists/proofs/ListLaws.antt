@@ -23,13 +23,14 @@ use Rattle.table.proofs.Checks.{root-known}
 use Rattle.lent.proofs.Writes.{length-wide, bytes-map, listed-map, lent-map, sized-copied, sized-filled, sized-short}
 use Rattle.names.specs.declared.names.Bound.{Bound}
 use Rattle.names.specs.declared.names.Bound.the-variants.{Unnamed, Named}
-use Rattle.tables.specs.declared.pending.Pending.{Pending}
-use Rattle.tables.specs.declared.pending.Pending.the-variants.{Nothing, Held}
+use Rattle.references.specs.declared.pending.Pending.{Pending}
+use Rattle.references.specs.declared.pending.Pending.the-variants.{Nothing, Held}
 use Rattle.collection.specs.declared.collection.Asked.{Asked}
 use Rattle.collection.specs.declared.collection.Asked.the-variants.{WithNames, TableAliases, ColumnAliases, TableRefs}
 use Rattle.names.specs.Names.{isPart, direct, aliasIn}
 use Rattle.collection.specs.Collection.{nodeGives, collected, collection, ownWith, ownColumns, ownTables, collectionOf}
-use Rattle.tables.specs.Tables.{fresh, aliased, Listing, handOn, listAlias, tableReading, references, aliases, referenceRow}
+use Rattle.references.specs.References.{fresh, referenceRow}
+use Rattle.tables.specs.Tables.{aliased, Listing, handOn, listAlias, tableReading, references, aliases}
 use Rattle.names.specs.Bindings.{bindingRow}
 use Rattle.lists.specs.Scope.{withNames, tableAliases, columnAliases, tableRefs}
 use Rattle.tables.specs.inner.Rows.{asRow, rowsOf}

@@ -4,7 +4,7 @@
 use Prim.Native.Nat.{ℕ}
 use mathlib.Core.List.{List}
 use Rattle.names.specs.declared.names.NameBinding.{NameBinding}
-use Rattle.tables.specs.declared.pending.TableRef.{TableRef}
+use Rattle.references.specs.declared.pending.TableRef.{TableRef}
 use Rattle.collection.specs.Collection.{collectionAt, ownWith, ownColumns, ownTables}
 use Rattle.tables.specs.Tables.{references, aliases}
 

@@ -9,7 +9,7 @@ ghost use lib.ListN.{length};
 ghost use Rattle.table.specs.Rules.{rules};
 ghost use Rattle.lent.specs.Lists.{Answers};
 ghost use Rattle.names.specs.Bindings.{bindingRow};
-ghost use Rattle.tables.specs.Tables.{referenceRow};
+ghost use Rattle.references.specs.References.{referenceRow};
 ghost use Rattle.tables.specs.inner.Rows.{asRow};
 ghost use Rattle.lists.specs.Scope.{tableAliases, columnAliases, tableRefs};
 ghost use Rattle.lists.specs.inner.Rows.{rowsAt};

@@ -26,7 +26,7 @@ use Rattle.statement.specs.declared.statement.Enclosing.{Enclosing}
 use Rattle.statement.specs.declared.statement.Enclosing.the-variants.{Outside, Record}
 use Rattle.statement.specs.declared.statement.StatementReply.the-variants.{Statement, NoStatement, Refused as Unstated}
 use Rattle.statement.specs.Statement.{told, statementReply}
-use Rattle.tables.specs.Tables.{referenceBytes, referenceRow}
+use Rattle.references.specs.References.{referenceBytes, referenceRow}
 use Rattle.lists.specs.Scope.{tableRefs}
 use Rattle.print.specs.Printed.{letterT, printedList, refusalLine}
 use Rattle.report.specs.Output.{answeredBy, answerText, referenceRoom, questionVerdict, unlessRefused, replied}

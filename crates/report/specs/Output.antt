@@ -9,10 +9,10 @@ use Rattle.lent.specs.declared.verdict.Verdict.the-variants.{Admitted, Refused}
 use Rattle.lent.specs.Verdicts.{Rule, rule, first}
 use Rattle.table.specs.Rules.{rootRules}
 use Rattle.lent.specs.Lists.{listBytes}
-use Rattle.tables.specs.declared.pending.TableRef.{TableRef}
+use Rattle.references.specs.declared.pending.TableRef.{TableRef}
 use Rattle.class_list.specs.Classes.{classRow as classRow, classesOf}
 use Rattle.brackets.specs.Brackets.{openerRow as openerRow, openersLeft}
-use Rattle.tables.specs.Tables.{referenceRow}
+use Rattle.references.specs.References.{referenceRow}
 use Rattle.lists.specs.Scope.{tableRefs}
 use Rattle.statement.specs.Statement.{enclosingAt}
 use Rattle.cursor.specs.CursorContext.{contextAt}

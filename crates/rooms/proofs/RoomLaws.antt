@@ -7,7 +7,7 @@ use borrow.Author.Tests.{lt-ltb, le-ltb}
 use Rattle.lent.specs.declared.verdict.Verdict.the-variants.{Admitted, Refused}
 use Rattle.lent.specs.Verdicts.{first}
 use Rattle.names.specs.Bindings.{bindingBytes}
-use Rattle.tables.specs.Tables.{referenceBytes}
+use Rattle.references.specs.References.{referenceBytes}
 use Rattle.rooms.specs.declared.rooms.Counts.{Counts}
 use Rattle.rooms.specs.Rooms.{everythingBytes}
 use Rattle.rooms.specs.inner.Counted.{roomsFor}

@@ -3,7 +3,7 @@ use lent::number::NUMBER_BYTES;
 use lent::verdict::NO_ROOM;
 use lent::verdict::Verdict;
 use names::bindings::BINDING_BYTES;
-use tables::pending::REFERENCE_BYTES;
+use references::references::REFERENCE_BYTES;
 ghost use mathlib.Core.Path.{_≡_};
 ghost use Rattle.lent.specs.Verdicts.{first};
 ghost use Rattle.rooms.specs.inner.Counted.{roomsFor};

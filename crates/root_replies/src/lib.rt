@@ -7,7 +7,7 @@ use scope::scope::with_names;
 ghost use lib.ListN.{length};
 ghost use Rattle.table.specs.Rules.{rootRules};
 ghost use Rattle.names.specs.Bindings.{bindingRow};
-ghost use Rattle.tables.specs.Tables.{referenceRow};
+ghost use Rattle.references.specs.References.{referenceRow};
 ghost use Rattle.lists.specs.Scope.{withNames, tableAliases, columnAliases, tableRefs};
 ghost use Rattle.replies.specs.Reply.{AnswersC};
 

@@ -28,9 +28,10 @@ use Rattle.lent.proofs.Cases.{lt-or-le}
 use Rattle.forest.proofs.Laws.{head-part}
 use Rattle.forest.proofs.Places.{stands, nodes-in-order}
 use Rattle.forest.proofs.Sense.{admitted-tidy}
-use Rattle.tables.specs.declared.pending.TableRef.{TableRef}
+use Rattle.references.specs.declared.pending.TableRef.{TableRef}
 use Rattle.collection.specs.Collection.{collection, ownTables}
-use Rattle.tables.specs.Tables.{references, referenceBytes, referenceRow}
+use Rattle.references.specs.References.{referenceBytes, referenceRow}
+use Rattle.tables.specs.Tables.{references}
 use Rattle.lists.specs.Scope.{tableRefs}
 use Rattle.roots.specs.Reach.{refs, times, Exact}
 use Rattle.roots.specs.AllRoots.{RootIn, recordsIn, timesIn}

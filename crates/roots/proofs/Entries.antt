@@ -16,10 +16,11 @@ use Rattle.names.specs.declared.names.Bound.{Bound}
 use Rattle.names.specs.declared.names.Bound.the-variants.{Unnamed, Named}
 use Rattle.names.specs.Names.{isPart, direct, withItem, aliasIn}
 use Rattle.names.specs.Bindings.{boundIn}
-use Rattle.tables.specs.declared.pending.TableRef.{TableRef}
-use Rattle.tables.specs.declared.pending.Pending.{Pending}
-use Rattle.tables.specs.declared.pending.Pending.the-variants.{Nothing, Held}
-use Rattle.tables.specs.Tables.{fresh, aliased, handOn, listAlias, tableReading, references, aliases}
+use Rattle.references.specs.declared.pending.TableRef.{TableRef}
+use Rattle.references.specs.declared.pending.Pending.{Pending}
+use Rattle.references.specs.declared.pending.Pending.the-variants.{Nothing, Held}
+use Rattle.references.specs.References.{fresh}
+use Rattle.tables.specs.Tables.{aliased, handOn, listAlias, tableReading, references, aliases}
 use Rattle.collection.specs.Collection.{ownWith, ownColumns, ownTables, collectionAt}
 use Rattle.lists.specs.Scope.{withNames, tableAliases, columnAliases, tableRefs}
 use Rattle.roots.specs.Nearest.{EntryOf, aliasAt, columnAt, referenceAt, itemAt, TableAliasOf, ColumnAliasOf, TableRefOf, WithNameOf}

@@ -22,9 +22,10 @@ use Rattle.names.specs.declared.names.Bound.{Bound}
 use Rattle.names.specs.declared.names.Bound.the-variants.{Unnamed, Named}
 use Rattle.names.specs.Names.{isPart, direct, aliasIn}
 use Rattle.names.specs.Bindings.{entry, boundIn}
-use Rattle.tables.specs.declared.pending.Pending.{Pending}
-use Rattle.tables.specs.declared.pending.Pending.the-variants.{Nothing}
-use Rattle.tables.specs.Tables.{fresh, aliased, Listing, handOn, listAlias, tableReading}
+use Rattle.references.specs.declared.pending.Pending.{Pending}
+use Rattle.references.specs.declared.pending.Pending.the-variants.{Nothing}
+use Rattle.references.specs.References.{fresh}
+use Rattle.tables.specs.Tables.{aliased, Listing, handOn, listAlias, tableReading}
 use Rattle.collection.specs.Collection.{nodeGives, collected, collection, collectionAt}
 use Rattle.path.specs.Path.{isSubquery}
 use Rattle.roots.specs.Nearest.{NearestRoot}

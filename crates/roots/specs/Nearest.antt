@@ -14,7 +14,7 @@ use Rattle.forest.specs.Forest.{Forest, inside}
 use Rattle.names.specs.declared.names.NameBinding.{NameBinding}
 use Rattle.names.specs.declared.names.Bound.the-variants.{Named}
 use Rattle.names.specs.Names.{withItem, aliasIn}
-use Rattle.tables.specs.declared.pending.TableRef.{TableRef}
+use Rattle.references.specs.declared.pending.TableRef.{TableRef}
 use Rattle.tables.specs.Tables.{references, aliases}
 use Rattle.collection.specs.Collection.{ownWith, ownColumns, ownTables}
 use Rattle.lists.specs.Scope.{withNames}

@@ -10,7 +10,7 @@ use Rattle.records.specs.declared.record.Rec.{Rec}
 use Rattle.records.specs.Kinds.{withClause, fromClause, joinClause, subqueryExpression, tableIdentifier, tableExpression}
 use Rattle.forest.specs.Forest.{Forest}
 use Rattle.forest.specs.Places.{Place, sum}
-use Rattle.tables.specs.declared.pending.TableRef.{TableRef}
+use Rattle.references.specs.declared.pending.TableRef.{TableRef}
 use Rattle.names.specs.Names.{isPart, direct}
 use Rattle.collection.specs.Collection.{collection, ownTables}
 use Rattle.tables.specs.Tables.{references}

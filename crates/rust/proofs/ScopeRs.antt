@@ -24,15 +24,16 @@ use Rattle.names.specs.declared.names.NameRanges.{NameRanges}
 use Rattle.names.specs.declared.names.NameBinding.{NameBinding}
 use Rattle.names.specs.declared.names.Bound.{Bound}
 use Rattle.names.specs.declared.names.Bound.the-variants.{Unnamed, Named}
-use Rattle.tables.specs.declared.pending.Pending.{Pending}
-use Rattle.tables.specs.declared.pending.Pending.the-variants.{Nothing, Held}
+use Rattle.references.specs.declared.pending.Pending.{Pending}
+use Rattle.references.specs.declared.pending.Pending.the-variants.{Nothing, Held}
 use Rattle.statement.specs.declared.statement.Enclosing.{Enclosing}
 use Rattle.statement.specs.declared.statement.Enclosing.the-variants.{Outside, Record}
 use Rattle.records.specs.Ranges.{span, holds}
 use Rattle.names.specs.Names.{isAs, isPart, isName, direct, unquoted, nameOf, firstNamed, lastNamed, withItem, aliasIn, binding as bind}
 use Rattle.collection.specs.Collection.{nodeGives, collected, collection, ownWith, ownColumns, ownTables, collectionAt}
 use Rattle.names.specs.Bindings.{entry, boundIn, withItems, selectAliases}
-use Rattle.tables.specs.Tables.{fresh, aliased, Listing, handOn, listAlias, tableReading, references, aliases}
+use Rattle.references.specs.References.{fresh}
+use Rattle.tables.specs.Tables.{aliased, Listing, handOn, listAlias, tableReading, references, aliases}
 use Rattle.statement.specs.Statement.{itself, isStatement, orElse, firstFind, enclosingAt}
 use Rattle.lists.proofs.ListLaws.{mapped, collection-map, tables-map}
 use Rattle.roots.specs.Reach.{oneOrTwo, hasOneOrTwo}

@@ -14,7 +14,7 @@ use Rattle.forest.specs.Forest.{Forest, nil, token, node, kids, inside}
 use Rattle.lent.specs.Text.{bytesOf, text, says}
 use Rattle.records.specs.declared.range.Range.{Range}
 use Rattle.names.specs.declared.names.NameBinding.{NameBinding}
-use Rattle.tables.specs.declared.pending.TableRef.{TableRef}
+use Rattle.references.specs.declared.pending.TableRef.{TableRef}
 use Rattle.statement.specs.declared.statement.Enclosing.{Enclosing}
 use Rattle.statement.specs.declared.statement.Enclosing.the-variants.{Outside, Record}
 use Rattle.records.specs.Ranges.{absent, span}

@@ -25,11 +25,12 @@ use Rattle.forest.proofs.Sense.{admitted-tidy}
 use Rattle.classes.specs.declared.token_class.TokenClass.{TokenClass}
 use Rattle.classes.specs.declared.token_class.TokenClass.the-variants.{Keyword, Function, StringLiteral, Number, Comment, Operator, Variable, TypeName, Parameter, Property, Unclassed}
 use Rattle.classes.specs.TokenClass.{classOf, numberOf}
-use Rattle.tables.specs.declared.pending.Pending.the-variants.{Nothing}
+use Rattle.references.specs.declared.pending.Pending.the-variants.{Nothing}
 use Rattle.names.specs.Names.{withItem, aliasIn}
 use Rattle.names.specs.Bindings.{withItems, selectAliases, bindingRow}
 use Rattle.names.proofs.Fitting.{items-fit, selected-fit, bound-few}
-use Rattle.tables.specs.Tables.{references, aliases, tableReading, referenceRow}
+use Rattle.references.specs.References.{referenceRow}
+use Rattle.tables.specs.Tables.{references, aliases, tableReading}
 use Rattle.tables.proofs.Fitting.{read-fits, aliases-fit, read-few}
 use Rattle.collection.specs.Collection.{ownWith, ownColumns, ownTables}
 use Rattle.collection.proofs.Fitting.{collection-fits, collection-few}

@@ -5,7 +5,7 @@ use lists::lists::list_of;
 ghost use lib.ListN.{length};
 ghost use Rattle.table.specs.Rules.{rootRules};
 ghost use Rattle.lent.specs.Lists.{Answers};
-ghost use Rattle.tables.specs.Tables.{referenceRow};
+ghost use Rattle.references.specs.References.{referenceRow};
 ghost use Rattle.names.specs.Bindings.{bindingRow};
 ghost use Rattle.lists.specs.Scope.{withNames, tableAliases, columnAliases, tableRefs};
 

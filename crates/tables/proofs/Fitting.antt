@@ -25,10 +25,11 @@ use Rattle.names.specs.declared.names.Bound.the-variants.{Unnamed, Named}
 use Rattle.names.specs.Names.{isPart, isName, direct, nameOf, absentName, binding, boundName, lastNamed, aliasIn}
 use Rattle.names.specs.Bindings.{bindingRow}
 use Rattle.names.proofs.Fitting.{RangesFit, absent-fits, name-fits, direct-near, BoundFits, alias-fits}
-use Rattle.tables.specs.declared.pending.TableRef.{TableRef}
-use Rattle.tables.specs.declared.pending.Pending.{Pending}
-use Rattle.tables.specs.declared.pending.Pending.the-variants.{Nothing, Held}
-use Rattle.tables.specs.Tables.{Listing, fresh, aliased, handOn, listAlias, tableReading, references, aliases, nameRow, referenceRow}
+use Rattle.references.specs.declared.pending.TableRef.{TableRef}
+use Rattle.references.specs.declared.pending.Pending.{Pending}
+use Rattle.references.specs.declared.pending.Pending.the-variants.{Nothing, Held}
+use Rattle.references.specs.References.{fresh, nameRow, referenceRow}
+use Rattle.tables.specs.Tables.{Listing, aliased, handOn, listAlias, tableReading, references, aliases}
 
 -- ---- the pending reference
 

@@ -15,15 +15,17 @@ use Rattle.forest.proofs.Laws.{head-part}
 use Rattle.forest.proofs.Writing.{writing, writing-turn}
 use Rattle.names.specs.declared.names.Bound.{Bound}
 use Rattle.names.specs.declared.names.Bound.the-variants.{Unnamed, Named}
-use Rattle.tables.specs.declared.pending.TableRef.{TableRef}
-use Rattle.tables.specs.declared.pending.Pending.{Pending}
-use Rattle.tables.specs.declared.pending.Pending.the-variants.{Nothing, Held}
+use Rattle.references.specs.declared.pending.TableRef.{TableRef}
+use Rattle.references.specs.declared.pending.Pending.{Pending}
+use Rattle.references.specs.declared.pending.Pending.the-variants.{Nothing, Held}
 use Rattle.tables.specs.declared.tables.Reads.{Reads}
 use Rattle.tables.specs.declared.tables.Reads.the-variants.{Aliases, References}
 use Rattle.names.specs.Names.{isPart, direct, aliasIn}
 use Rattle.names.specs.Bindings.{entry, bindingRow}
-use Rattle.tables.specs.Tables.{fresh, aliased, Listing, handOn, listAlias, tableReading, referenceRow}
-use Rattle.tables.specs.inner.Rows.{rowsOf, pends}
+use Rattle.references.specs.References.{fresh, referenceRow}
+use Rattle.tables.specs.Tables.{aliased, Listing, handOn, listAlias, tableReading}
+use Rattle.tables.specs.inner.Rows.{rowsOf}
+use Rattle.references.specs.inner.Pending.{pends}
 use Rattle.records.proofs.Fields.{kind-yes, kind-no, index-of}
 
 -- ---- the table reading: what is written of the pending reference and of an alias

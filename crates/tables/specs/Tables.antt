@@ -1,31 +1,23 @@
--- The table reading of FROM and JOIN, and the entries of its references.
+-- The table reading of FROM and JOIN.
 -- src is the source's bytes.
 -- Definitions only.
-use Prim.Native.Nat.{ℕ, _*_}
+use Prim.Native.Nat.{ℕ}
 use mathlib.Core.Bool.{cond}
 use mathlib.Core.List.{List, [], _∷_, _++_}
 use lib.Dec.{eqb}
 use Rattle.records.specs.declared.record.Rec.{Rec}
 use Rattle.records.specs.Kinds.{joinClause, tableIdentifier, tableExpression, tableAlias}
 use Rattle.forest.specs.Forest.{Forest, nil, token, node}
-use Rattle.names.specs.declared.names.NameRanges.{NameRanges}
 use Rattle.names.specs.declared.names.NameBinding.{NameBinding}
-use Rattle.tables.specs.declared.pending.TableRef.{TableRef}
+use Rattle.references.specs.declared.pending.TableRef.{TableRef}
 use Rattle.names.specs.declared.names.Bound.{Bound}
 use Rattle.names.specs.declared.names.Bound.the-variants.{Unnamed, Named}
-use Rattle.tables.specs.declared.pending.Pending.{Pending}
-use Rattle.tables.specs.declared.pending.Pending.the-variants.{Nothing, Held}
-use Rattle.names.specs.Names.{isPart, direct, nameOf, absentName, boundName, aliasIn}
-use Rattle.lent.specs.Numbers.{numberBytes}
+use Rattle.references.specs.declared.pending.Pending.{Pending}
+use Rattle.references.specs.declared.pending.Pending.the-variants.{Nothing, Held}
+use Rattle.names.specs.Names.{isPart, direct, boundName, aliasIn}
+use Rattle.references.specs.References.{fresh}
 
 -- ---- the table reading
-
--- the reference of name node x by its parts. One: table; two: database, table; else none
-unfoldable pub fresh : List ℕ → ℕ → List Rec → Pending
-fresh src x [] = Nothing
-fresh src x (t ∷ []) = Held (record { «record» = x; database = absentName; table = nameOf src t; alias = absentName })
-fresh src x (d ∷ t ∷ []) = Held (record { «record» = x; database = nameOf src d; table = nameOf src t; alias = absentName })
-fresh src x (d ∷ t ∷ u ∷ more) = Nothing
 
 -- an alias that has a name sets the alias of the pending reference, if one is pending
 unfoldable pub aliased : Pending → Bound → Pending
@@ -68,15 +60,3 @@ references = record { reference = λ t. t ∷ []; alias = λ b. [] }
 
 abbrev pub aliases : Listing NameBinding
 aliases = record { reference = λ t. []; alias = λ b. b ∷ [] }
-
--- a name: its outer range, then its inner one
-abbrev pub nameRow : NameRanges → List ℕ
-nameRow n = n .outer .start ∷ n .outer .end ∷ n .inner .start ∷ n .inner .end ∷ []
-
--- a reference: record, then the ranges of database, table and alias, name by name
-abbrev pub referenceRow : TableRef → List ℕ
-referenceRow e = e .«record» ∷ nameRow (e .database) ++ nameRow (e .table) ++ nameRow (e .alias)
-
--- how many bytes each takes
-abbrev pub referenceBytes : ℕ
-referenceBytes = 13 * numberBytes

@@ -1,13 +1,9 @@
 // The table reading: the references and the aliases of FROM and JOIN.
-use crate::pending::Pending;
-use crate::pending::TableRef;
-use crate::pending::alias_after;
-use crate::pending::is_pending;
-use crate::pending::pending_of;
+use crate::waiting::alias_after;
+use crate::waiting::pending_of;
 use forest::nodes::node_from;
 use forest::stretch::stretch_end;
 use forest::stretch::stretch_of;
-use lent::list::put_entry;
 use names::bindings::put_bound;
 use names::names::extract_alias_name;
 use records::kinds::JOIN_CLAUSE;
@@ -16,13 +12,16 @@ use records::kinds::TABLE_EXPRESSION;
 use records::kinds::TABLE_IDENTIFIER;
 use records::record::count_of;
 use records::record::kind_at;
-ghost use mathlib.Core.List.{[], _∷_};
+use references::pending::Pending;
+use references::pending::is_pending;
+use references::references::put_reference;
 ghost use Prim.Native.Nat.{_+_, _*_, _≤_, _<_};
 ghost use Rattle.records.specs.Table.{count, records};
 ghost use Rattle.forest.specs.Forest.{kids};
 ghost use Rattle.conditions.specs.Conditions.{mostRecords};
 ghost use Rattle.lent.specs.Lists.{farthest, Written};
-ghost use Rattle.tables.specs.Tables.{handOn, listAlias, tableReading, referenceBytes, referenceRow};
+ghost use Rattle.references.specs.References.{referenceBytes};
+ghost use Rattle.tables.specs.Tables.{handOn, listAlias, tableReading};
 ghost use Rattle.tables.specs.inner.Rows.{asRow, rowsOf, readBytes};
 ghost use Rattle.tables.specs.inner.Waiting.{pendingAt, boundAt};
 
@@ -30,29 +29,6 @@ ghost use Rattle.tables.specs.inner.Waiting.{pendingAt, boundAt};
 pub enum Reads {
     Aliases,
     References,
-}
-
-// Writes a reference's entry from byte `at` on, and returns where the next entry goes.
-fn put_reference(t: TableRef, out: &mut [u8], at: usize) -> usize
-    requires { ⌜ at < farthest ⌝ }
-    ensures { λ r. ⌜ Written referenceRow (t ∷ []) (now (out .entry)) at (now (out .exit)) r × (r ≤ at + referenceBytes) ⌝ }
-{
-    let row = [
-        t.record,
-        t.database.outer.start,
-        t.database.outer.end,
-        t.database.inner.start,
-        t.database.inner.end,
-        t.table.outer.start,
-        t.table.outer.end,
-        t.table.inner.start,
-        t.table.inner.end,
-        t.alias.outer.start,
-        t.alias.outer.end,
-        t.alias.inner.start,
-        t.alias.inner.end,
-    ];
-    put_entry(out, at, &row)
 }
 
 // Writes the alias at record i, if aliases are read and a reference is pending, and returns where the next entry goes.

@@ -23,7 +23,8 @@ use Rattle.brackets.specs.Brackets.{fits, closed, stackStep, left}
 use Rattle.names.specs.Names.{isAs, isPart, isName, direct, unquoted, nameOf, binding, firstNamed, lastNamed}
 use Rattle.collection.specs.Collection.{nodeGives, collected, collection, ownWith, ownColumns, ownTables}
 use Rattle.names.specs.Bindings.{entry, boundIn}
-use Rattle.tables.specs.Tables.{fresh, aliased, handOn, listAlias, tableReading}
+use Rattle.references.specs.References.{fresh}
+use Rattle.tables.specs.Tables.{aliased, handOn, listAlias, tableReading}
 use Rattle.statement.specs.Statement.{orElse, firstFind, enclosingAt}
 use Rattle.path.specs.Path.{deepestOr, onPath, nextOf, isDeepest, deepestOver}
 use Rattle.tokens.specs.LastToken.{lastOr, init, lastTwo, isText, isWord, dotted, isJoinWord}

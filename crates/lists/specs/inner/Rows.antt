@@ -6,7 +6,7 @@ use Rattle.collection.specs.declared.collection.Asked.{Asked}
 use Rattle.collection.specs.declared.collection.Asked.the-variants.{WithNames, TableAliases, ColumnAliases, TableRefs}
 use Rattle.collection.specs.Collection.{collectionAt}
 use Rattle.collection.specs.inner.Rows.{ownRows}
-use Rattle.tables.specs.Tables.{referenceBytes}
+use Rattle.references.specs.References.{referenceBytes}
 use Rattle.names.specs.Bindings.{bindingBytes}
 
 -- the list of record i

@@ -5,7 +5,7 @@ use mathlib.Core.List.{List, [], _∷_}
 use lib.Dec.{ltb}
 use Rattle.lent.specs.Verdicts.{Rule, rule}
 use Rattle.names.specs.Bindings.{bindingBytes}
-use Rattle.tables.specs.Tables.{referenceBytes}
+use Rattle.references.specs.References.{referenceBytes}
 use Rattle.rooms.specs.declared.rooms.Counts.{Counts}
 use Rattle.rooms.specs.Rooms.{everythingBytes}
 

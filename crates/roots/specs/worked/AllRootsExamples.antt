@@ -17,8 +17,9 @@ use Rattle.forest.specs.Places.{Place, places, nodesOf, sum}
 use Rattle.lent.specs.Text.{bytesOf}
 use Rattle.table.specs.worked.Worked.{rec, child}
 use Rattle.names.specs.Names.{isPart, direct}
-use Rattle.tables.specs.declared.pending.TableRef.{TableRef}
-use Rattle.tables.specs.Tables.{fresh, handOn, tableReading}
+use Rattle.references.specs.declared.pending.TableRef.{TableRef}
+use Rattle.references.specs.References.{fresh}
+use Rattle.tables.specs.Tables.{handOn, tableReading}
 use Rattle.collection.specs.Collection.{nodeGives, collected, collection, ownTables}
 use Rattle.lists.specs.Scope.{tableRefs}
 use Rattle.roots.specs.Reach.{isTop, isRoot, oneOrTwo, isTableName, rootIs, upToRoot, every, reach, reaching, reaches}

@@ -11,7 +11,8 @@ use Rattle.lent.specs.Text.{bytesOf, upper, text, says}
 use Rattle.names.specs.Names.{isAs, isPart, isName, direct, unquoted, nameOf, binding, firstNamed, lastNamed}
 use Rattle.collection.specs.Collection.{nodeGives, collected, collection, ownWith, ownColumns, ownTables}
 use Rattle.names.specs.Bindings.{entry, boundIn, bindingRow}
-use Rattle.tables.specs.Tables.{fresh, aliased, handOn, listAlias, tableReading, referenceRow}
+use Rattle.references.specs.References.{fresh, referenceRow}
+use Rattle.tables.specs.Tables.{aliased, handOn, listAlias, tableReading}
 use Rattle.lists.specs.Scope.{withNames, tableAliases, columnAliases, tableRefs}
 
 abbrev none : ℕ

@@ -1,13 +1,11 @@
 -- How one reading serves references and aliases: its entries are rows of numbers.
 -- Definitions only. A reader of the lists needs none of them.
 use Prim.Native.Nat.{ℕ, _*_}
-use mathlib.Core.Bool.{Bool, true, false}
 use mathlib.Core.List.{List, [], _∷_}
-use Rattle.tables.specs.declared.pending.Pending.{Pending}
-use Rattle.tables.specs.declared.pending.Pending.the-variants.{Nothing, Held}
 use Rattle.tables.specs.declared.tables.Reads.{Reads}
 use Rattle.tables.specs.declared.tables.Reads.the-variants.{Aliases, References}
-use Rattle.tables.specs.Tables.{Listing, referenceBytes, referenceRow}
+use Rattle.references.specs.References.{referenceBytes, referenceRow}
+use Rattle.tables.specs.Tables.{Listing}
 use Rattle.names.specs.Bindings.{bindingRow}
 
 -- a row is its own numbers
@@ -18,11 +16,6 @@ asRow e = e
 unfoldable pub rowsOf : Reads → Listing (List ℕ)
 rowsOf Aliases = record { reference = λ t. []; alias = λ b. bindingRow b ∷ [] }
 rowsOf References = record { reference = λ t. referenceRow t ∷ []; alias = λ b. [] }
-
--- is a reference pending
-abbrev pub pends : Pending → Bool
-pends Nothing = false
-pends (Held t) = true
 
 -- how many bytes a table reading takes at most for each record: two references
 abbrev pub readBytes : ℕ

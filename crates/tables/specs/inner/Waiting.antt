@@ -9,9 +9,10 @@ use Rattle.forest.specs.Forest.{kids, stretchEnd}
 use Rattle.names.specs.declared.names.Bound.{Bound}
 use Rattle.names.specs.declared.names.Bound.the-variants.{Unnamed, Named}
 use Rattle.names.specs.Names.{isPart, direct, aliasIn}
-use Rattle.tables.specs.declared.pending.Pending.{Pending}
-use Rattle.tables.specs.declared.pending.Pending.the-variants.{Nothing}
-use Rattle.tables.specs.Tables.{fresh, aliased}
+use Rattle.references.specs.declared.pending.Pending.{Pending}
+use Rattle.references.specs.declared.pending.Pending.the-variants.{Nothing}
+use Rattle.references.specs.References.{fresh}
+use Rattle.tables.specs.Tables.{aliased}
 
 -- the reference of the table name at record n
 unfoldable pub freshAt : List ℕ → ℕ → List ℕ → ℕ → Pending

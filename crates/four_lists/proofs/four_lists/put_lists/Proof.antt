@@ -1,6 +1,6 @@
 use Rattle.lists.proofs.ListLaws.{alias-rows, column-rows, reference-rows, question}
 use Rattle.names.specs.Bindings.{bindingRow}
-use Rattle.tables.specs.Tables.{referenceRow}
+use Rattle.references.specs.References.{referenceRow}
 use mathlib.Core.List.{[]}
 use borrow.Author.Needs.{needs}
 use Rattle.four_lists.proofs.four_lists.put_lists.Statement.{statement}

@@ -1,9 +1,9 @@
 use Rattle.tables.proofs.Turns.{reading-passes, read-name, read-alias, read-table, read-join, read-other, read-end}
-use Rattle.tables.proofs.Waiting.{waiting-name, bound-at, alias-set}
+use Rattle.tables.proofs.WaitingLaws.{waiting-name, bound-at, alias-set}
 use Rattle.tables.specs.inner.Rows.{asRow, rowsOf, readBytes}
 use Rattle.tables.specs.inner.Waiting.{pendingAt}
 use Rattle.tables.specs.Tables.{tableReading}
-use Rattle.tables.specs.declared.pending.Pending.the-variants.{Nothing}
+use Rattle.references.specs.declared.pending.Pending.the-variants.{Nothing}
 use Rattle.lent.proofs.Writes.{written-none, written-then}
 use Rattle.forest.proofs.Writing.{writing, writing-turn, writing-last}
 use Rattle.forest.proofs.Walks.{walk-end}
@@ -21,7 +21,7 @@ use Rattle.tables.proofs.tables.+collect_table_refs.Tie.{close}
 use Rattle.tables.proofs.tables.collect_table_refs.Reads as collect-table-refs
 use Rattle.tables.proofs.tables.collect_table_refs.Kinds as collect-table-refs-kinds
 use Rattle.tables.proofs.tables.+collect_table_refs.Lts-collect_table_refs as collect-table-refs-lts
-use Rattle.tables.proofs.pending.alias_after.Reads as alias-after-reads
+use Rattle.tables.proofs.waiting.alias_after.Reads as alias-after-reads
 use Rattle.tables.proofs.tables.hand_on.Reads as hand-on-reads
 use Rattle.tables.proofs.tables.put_alias.Reads as put-alias-reads
 use Rattle.records.proofs.record.count_of.Reads as count-of-reads

@@ -1,5 +1,5 @@
 use Rattle.tables.proofs.Turns.{alias-none, alias-held, alias-idle}
-use Rattle.tables.proofs.Waiting.{bound-at}
+use Rattle.tables.proofs.WaitingLaws.{bound-at}
 use Rattle.lent.proofs.Writes.{written-none, written-map}
 use Rattle.names.specs.Bindings.{bindingRow}
 use Rattle.tables.specs.inner.Rows.{asRow}

@@ -1,9 +1,9 @@
-use Rattle.tables.specs.Tables.{referenceRow}
+use Rattle.references.specs.References.{referenceRow}
 use native.Mathlib.Omega.{arith}
 use Rattle.lent.proofs.Writes.{written-one}
 use borrow.Author.Needs.{needs}
-use Rattle.tables.proofs.tables.put_reference.Statement.{statement}
-use Rattle.tables.proofs.tables.put_reference.Tie as tie
+use Rattle.references.proofs.references.put_reference.Statement.{statement}
+use Rattle.references.proofs.references.put_reference.Tie as tie
 
 pub put-reference-spec : {M : Type 1} → statement M
 put-reference-spec =

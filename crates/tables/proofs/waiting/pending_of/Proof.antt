@@ -1,7 +1,7 @@
-use Rattle.tables.proofs.Waiting.{waiting-none, waiting-name, waiting-both}
+use Rattle.tables.proofs.WaitingLaws.{waiting-none, waiting-name, waiting-both}
 use native.Mathlib.Omega.{arith}
-use Rattle.tables.proofs.pending.pending_of.Statement.{statement}
-use Rattle.tables.proofs.pending.pending_of.Tie as tie
+use Rattle.tables.proofs.waiting.pending_of.Statement.{statement}
+use Rattle.tables.proofs.waiting.pending_of.Tie as tie
 
 pub pending-of-spec : {M : Type 1} → statement M
 pending-of-spec =

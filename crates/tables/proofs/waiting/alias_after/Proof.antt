@@ -1,8 +1,8 @@
-use Rattle.tables.proofs.Waiting.{bound-at, after-first, after-unnamed, after-named}
+use Rattle.tables.proofs.WaitingLaws.{bound-at, after-first, after-unnamed, after-named}
 use native.Mathlib.Omega.{arith}
 use borrow.Author.Needs.{needs}
-use Rattle.tables.proofs.pending.alias_after.Statement.{statement}
-use Rattle.tables.proofs.pending.alias_after.Tie as tie
+use Rattle.tables.proofs.waiting.alias_after.Statement.{statement}
+use Rattle.tables.proofs.waiting.alias_after.Tie as tie
 
 pub alias-after-spec : {M : Type 1} → statement M
 alias-after-spec =

@@ -11,10 +11,10 @@ use Rattle.records.specs.declared.record.Rec.{Rec}
 use Rattle.records.specs.Kinds.{lastNode}
 use Rattle.forest.specs.Forest.{Forest, nil, token, node}
 use Rattle.names.specs.declared.names.NameRanges.{NameRanges}
-use Rattle.tables.specs.declared.pending.Pending.{Pending}
-use Rattle.tables.specs.declared.pending.Pending.the-variants.{Nothing, Held}
+use Rattle.references.specs.declared.pending.Pending.{Pending}
+use Rattle.references.specs.declared.pending.Pending.the-variants.{Nothing, Held}
 use Rattle.names.specs.Names.{isPart, direct, nameOf, absentName}
-use Rattle.tables.specs.Tables.{fresh}
+use Rattle.references.specs.References.{fresh}
 use Rattle.names.proofs.NameLaws.{direct-yes, direct-no, direct-node, part-node}
 
 -- the reference of name node x after n parts, of which d and t are the last two, with these parts to come

@@ -1,7 +1,7 @@
 use Rattle.tables.specs.Tables.{aliased}
 use borrow.Author.Needs.{needs}
-use Rattle.tables.proofs.pending.with_alias.Statement.{statement}
-use Rattle.tables.proofs.pending.with_alias.Tie as tie
+use Rattle.tables.proofs.waiting.with_alias.Statement.{statement}
+use Rattle.tables.proofs.waiting.with_alias.Tie as tie
 
 pub with-alias-spec : {M : Type 1} → statement M
 unfolding aliased

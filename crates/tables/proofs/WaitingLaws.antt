@@ -16,9 +16,10 @@ use Rattle.names.specs.declared.names.NameBinding.{NameBinding}
 use Rattle.names.specs.declared.names.Bound.{Bound}
 use Rattle.names.specs.declared.names.Bound.the-variants.{Unnamed, Named}
 use Rattle.names.specs.Names.{isPart, direct, aliasIn}
-use Rattle.tables.specs.declared.pending.Pending.{Pending}
-use Rattle.tables.specs.declared.pending.Pending.the-variants.{Nothing, Held}
-use Rattle.tables.specs.Tables.{fresh, aliased}
+use Rattle.references.specs.declared.pending.Pending.{Pending}
+use Rattle.references.specs.declared.pending.Pending.the-variants.{Nothing, Held}
+use Rattle.references.specs.References.{fresh}
+use Rattle.tables.specs.Tables.{aliased}
 use Rattle.tables.specs.inner.Waiting.{freshAt, boundAt, pendingAt, newer, aliasAfter}
 
 unnamed-keeps : (p : Pending) → p ≡ aliased p Unnamed

@@ -1,5 +1,5 @@
-use Rattle.tables.proofs.PendingLaws.{shiftedIn, shifted-start, shifted-part, shifted-on, shifted-over, shifted-none, shifted-many, shifted-held, part-not}
-use Rattle.tables.specs.Tables.{fresh}
+use Rattle.references.proofs.PendingLaws.{shiftedIn, shifted-start, shifted-part, shifted-on, shifted-over, shifted-none, shifted-many, shifted-held, part-not}
+use Rattle.references.specs.References.{fresh}
 use Rattle.names.specs.Names.{isPart, direct}
 use Rattle.forest.proofs.Walks.{Walk, walk-from, walk-end, walk-next}
 use Rattle.forest.specs.Forest.{kids}
@@ -7,8 +7,8 @@ use Rattle.records.specs.Table.{records, recordAt}
 use mathlib.Core.Path.{_∙_, sym}
 use Prim.Native.Nat.{_-_, _≤_, _<_}
 use native.Mathlib.Omega.{arith}
-use Rattle.tables.proofs.pending.extract_table_identifier.Statement.{statement}
-use Rattle.tables.proofs.pending.extract_table_identifier.Tie as tie
+use Rattle.references.proofs.pending.extract_table_identifier.Statement.{statement}
+use Rattle.references.proofs.pending.extract_table_identifier.Tie as tie
 
 abbrev Inv-loop : tie.InvT-loop
 Inv-loop s base source m parts₀ database₀ table₀ i₀ parts database table i =
