@@ -20,9 +20,9 @@ use Rattle.brackets.specs.declared.bracket_matching.HintReply.the-varian
 use Rattle.lent.specs.declared.list.Listed.the-variants.{Entries, Refused as Denied}
 use Rattle.lent.specs.Numbers.{numberBytes}
 use Rattle.lent.specs.Lists.{put, Written, listed, lent}
-use Rattle.lent.specs.Text.{same}
+use Rattle.text.specs.Text.{same}
 use Rattle.lent.proofs.Cases.{lt-or-le, eq-or-not, both}
-use Rattle.lent.proofs.Texts.{differ}
+use Rattle.text.proofs.Texts.{differ}
 use Rattle.lent.proofs.Writes.{written-none, written-one, written-then, length-wide, list-filled, list-short}
 use Rattle.brackets.specs.Brackets.{fits, closed, stackStep, left, stackLeft, indexOf, openersLeft, openerRow, holding, lastOpener, hintOf, hinted, StandsIn}
 use Rattle.brackets.specs.inner.BracketStack.{stacked, unpacked, stackOf, closedBy, steppedBy, leftBy, lastBy, hintBy}

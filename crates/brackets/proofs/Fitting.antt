@@ -9,7 +9,7 @@ use native.Mathlib.Omega.{arith}
 use lib.Dec.{eqb}
 use lib.ListN.{length, length-map, length-reverse}
 use Rattle.lent.specs.declared.verdict.Verdict.the-variants.{Admitted}
-use Rattle.lent.specs.Text.{bytesOf}
+use Rattle.text.specs.Text.{bytesOf}
 use Rattle.lent.specs.Fit32.{Fit32, AllFit32}
 use Rattle.records.specs.declared.record.Rec.{Rec}
 use Rattle.records.specs.Kinds.{openingRound, openingSquare, openingCurly}

@@ -10,7 +10,7 @@ use Rattle.records.specs.declared.record.Rec.{Rec}
 use Rattle.records.specs.Kinds.{openingRound, openingSquare, openingCurly, closingRound, closingSquare, closingCurly}
 use Rattle.records.specs.Table.{records}
 use Rattle.forest.specs.Forest.{Forest, nil, token, node, kids}
-use Rattle.lent.specs.Text.{bytesOf, same}
+use Rattle.text.specs.Text.{bytesOf, same}
 use Rattle.lent.specs.declared.verdict.Verdict.{Verdict}
 use Rattle.lent.specs.declared.verdict.Verdict.the-variants.{Admitted, Refused}
 use Rattle.brackets.specs.declared.bracket_matching.HintReply.{HintReply}

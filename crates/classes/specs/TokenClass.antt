@@ -6,7 +6,7 @@ use mathlib.Core.Option.{Option, none, some}
 use mathlib.Core.List.{List}
 use lib.Dec.{leb, eqb}
 use Rattle.records.specs.Kinds.{tableIdentifier, tableAlias, columnAlias, dataType, nestedDataType, functionCall, tableFunction, identifier, qualifiedName, queryParameterExpression, databaseDefinition, tableDefinition, dictionaryDefinition, expression, comment, bareWord, quotedIdentifier, number, stringToken, hereDoc, plus, arrow}
-use Rattle.lent.specs.Text.{text}
+use Rattle.text.specs.Text.{text}
 use Rattle.classes.specs.declared.token_class.TokenClass.{TokenClass}
 use Rattle.classes.specs.declared.token_class.TokenClass.the-variants.{Keyword, Function, StringLiteral, Number, Comment, Operator, Variable, TypeName, Parameter, Property, Unclassed}
 use Rattle.keywords.specs.Keywords.{isKeyword}

@@ -1,7 +1,6 @@
 // The class of a token: what colour it has, by its kind, its direct parent's kind and, for a bareword, the keywords.
 use keywords::keywords::Starts;
 use keywords::keywords::keyword_in;
-use lent::text::text_of;
 use records::kinds::BARE_WORD;
 use records::kinds::COMMENT;
 use records::kinds::HERE_DOC;
@@ -10,6 +9,7 @@ use records::kinds::NUMBER;
 use records::kinds::PLUS;
 use records::kinds::QUOTED_IDENTIFIER;
 use records::kinds::STRING_TOKEN;
+use text::text::text_of;
 ghost use mathlib.Core.Path.{_≡_};
 ghost use mathlib.Core.Bool.{false};
 ghost use Rattle.classes.specs.inner.Slots.{slotOf};

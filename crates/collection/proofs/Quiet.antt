@@ -1,5 +1,4 @@
 -- Where a stretch has no clause that a list is read from, nothing is collected in it.
---     Unmet, unmet-..                   the search for such a clause, a record at a time
 --     quiet-node                        a child in which there is nothing to collect
 --     tokens-pass                       a token adds nothing to what is written
 -- Assumes nothing.
@@ -19,36 +18,13 @@ use Rattle.records.specs.Table.{count, kindAt, recordAt, run, from, records, pa
 use Rattle.lent.proofs.Writes.{written-none}
 use Rattle.forest.specs.Forest.{Forest, token, node, level, kids, stretchEnd}
 use Rattle.forest.proofs.Writing.{writing, writing-turn}
-use Rattle.forest.proofs.Laws.{level-shallow, level-deep, level-token, level-node, node-or-token, from-end, from-cons, head-part}
-use Rattle.collection.specs.declared.collection.Asked.{Asked}
-use Rattle.collection.specs.declared.collection.Asked.the-variants.{WithNames, TableAliases, ColumnAliases, TableRefs}
+use Rattle.forest.proofs.Laws.{level-shallow, level-deep, level-token, level-node, node-or-token, from-cons, head-part}
+use Rattle.clauses.specs.declared.clauses.Asked.{Asked}
+use Rattle.clauses.specs.declared.clauses.Asked.the-variants.{WithNames, TableAliases, ColumnAliases, TableRefs}
 use Rattle.collection.specs.Collection.{nodeGives, collected}
 use Rattle.collection.specs.inner.Rows.{ownRows}
-use Rattle.collection.specs.inner.Clauses.{inKinds, someKind, someClause}
+use Rattle.clauses.specs.inner.Clauses.{inKinds, someKind, someClause}
 use Rattle.collection.proofs.Turns.{collected-sub, with-no, columns-no, aliases-are, references-are, tables-no}
-
--- ---- the search
-
--- whether a record from i on has one of the kinds f to l is b
-pub record Unmet (s : List ℕ) (f l i : ℕ) (b : Bool) : Type 0 where
-  pub left : someKind f l (from s 0 i) ≡ b
-
-pub unmet-start : (s : List ℕ) (f l i : ℕ) → Unmet s f l i (someKind f l (from s 0 i))
-unmet-start s f l i = record { left = refl }
-
-module _ {s : List ℕ} {f l i : ℕ} {b : Bool} (w : Unmet s f l i b) where
-  pub unmet-none : count s ≤ i → false ≡ b
-  unfolding someKind
-  unmet-none h = (rw (from-end s 0 i h) at (w .left))
-
-  module _ (h : i < count s) {k : ℕ} {x : Bool} (e : k ≡ kindAt s i) (t : x ≡ inKinds f l k) where
-    pub unmet-found : x ≡ true → true ≡ b
-    unfolding someKind recordAt
-    unmet-found y = (rw (from-cons s 0 i h, ← e, ← t, y) at (w .left))
-
-    pub unmet-on : {j : ℕ} → x ≡ false → j ≡ i + 1 → Unmet s f l j b
-    unfolding someKind recordAt
-    unmet-on y q = record { left = rw q (rw (from-cons s 0 i h, ← e, ← t, y) at (w .left)) }
 
 -- the records' numbers have no part in it
 kind-run : (f l : ℕ) (t : List ℕ) (b c i n : ℕ) → someKind f l (run t b i n) ≡ someKind f l (run t c i n)
@@ -121,13 +97,6 @@ module _ (src : List ℕ) where
         (lt-or-le (r .depth) k)
 
 -- ---- a child's stretch
-
-module _ (asked : Asked) (s : List ℕ) {k : ℕ} (e : k ≡ kindAt s 0) where
-  pub hands-sub : k ≡ subqueryExpression → false ≡ (not (eqb (kindAt s 0) subqueryExpression) && someClause asked (records 0 s))
-  hands-sub q = rw (eq-eqb (kindAt s 0) subqueryExpression (sym e ∙ q))
-
-  pub hands-clause : {x : Bool} → (k ≡ subqueryExpression → ⊥) → x ≡ someClause asked (records 0 s) → x ≡ (not (eqb (kindAt s 0) subqueryExpression) && someClause asked (records 0 s))
-  hands-clause n c = rw (ne-eqb (kindAt s 0) subqueryExpression (λ q. n (e ∙ q))) c
 
 -- the records' numbers have no part in it
 clause-run : (asked : Asked) (t : List ℕ) (b c i n : ℕ) → someClause asked (run t b i n) ≡ someClause asked (run t c i n)

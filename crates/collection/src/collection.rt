@@ -1,7 +1,8 @@
 // Collection: a node's own part, and then each child's.
-use crate::clauses::hands_on;
 use binders::binders::collect_column_aliases;
 use binders::binders::collect_ctes;
+use clauses::clauses::Asked;
+use clauses::clauses::hands_on;
 use forest::nodes::node_from;
 use forest::stretch::stretch_of;
 use records::kinds::FROM_CLAUSE;
@@ -20,14 +21,6 @@ ghost use Rattle.lent.specs.Lists.{farthest, Written};
 ghost use Rattle.collection.specs.Collection.{ownTables, collectionOf};
 ghost use Rattle.tables.specs.inner.Rows.{asRow, rowsOf, readBytes};
 ghost use Rattle.collection.specs.inner.Rows.{ownRows, ownBytes};
-
-// The list that is asked for.
-pub enum Asked {
-    WithNames,
-    TableAliases,
-    ColumnAliases,
-    TableRefs,
-}
 
 // The own part of a node in a list of what a table reading reads.
 fn own_tables(

@@ -1,3 +1,2 @@
 // The collection: what a node gives to each list, and then what its children give.
-pub mod clauses;
 pub mod collection;

@@ -17,9 +17,10 @@ use Rattle.forest.specs.Tokens.{tokensOf, only}
 use Rattle.conditions.specs.Conditions.{misplaced, nearest, lastEnd, badSpan}
 use Rattle.refusals.specs.ByRecord.{rulesFrom}
 use Rattle.table.specs.Rules.{verdict}
-use Rattle.lent.specs.Text.{bytesOf, upper, text, says}
+use Rattle.text.specs.Text.{bytesOf, upper, text, says}
 use Rattle.table.specs.worked.Worked.{rec, child}
-use Rattle.names.specs.Names.{isAs, isPart, isName, direct, unquoted, nameOf, binding, lastNamed}
+use Rattle.names.specs.Names.{isAs, isPart, isName, direct, binding, lastNamed}
+use Rattle.quotes.specs.Quotes.{unquoted, nameOf}
 use Rattle.names.specs.Bindings.{bindingRow}
 use Rattle.collection.specs.Collection.{nodeGives, collected, collection, ownWith, ownTables}
 use Rattle.references.specs.References.{fresh, referenceRow}
@@ -36,7 +37,8 @@ use Rattle.contexts.specs.Context.{rangeOf, coded, contextRow}
 use Rattle.cursor_root.specs.Root.{statementOr, rootOf, rootAt}
 use Rattle.forest.specs.Above.{aboveAmong}
 use Rattle.enclosing.specs.Enclosing.{queries, someQuery, beyond, statementAmong, lastRoot, rootsAmong, enclosingRoots}
-use Rattle.seen.specs.Seen.{items, itemsBefore, boundBy, ownSeen}
+use Rattle.seen.specs.Seen.{ownSeen}
+use Rattle.items.specs.Items.{items, itemsBefore, boundBy}
 use Rattle.enclosing.specs.Offered.{seenOfAll, offeredIn}
 use Rattle.demands.specs.declared.Question.the-variants.{CursorContext, TableAliases, TableRefs, WithNamesAt, TableAliasesAt, ColumnAliasesAt, TableRefsAt}
 use Rattle.demands.specs.Questions.{Asked, asked, Said, number, rows, list, matter}

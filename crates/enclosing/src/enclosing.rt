@@ -1,5 +1,5 @@
 // The roots around a root, and the WITH names that are offered at it: its own, then those that it sees of each enclosing root (document 02, §4).
-use collection::collection::Asked;
+use clauses::clauses::Asked;
 use collection::collection::collect_scope;
 use forest::stretch::stretch_of;
 use lent::list::KEPT_BYTES;

@@ -1,5 +1,5 @@
 // The four lists of a root at once, each in a buffer of its own: how many entries they have, and their bytes.
-use collection::collection::Asked;
+use clauses::clauses::Asked;
 use enclosing::enclosing::list_offered;
 use lent::list::Listed;
 use lists::lists::list_in;

@@ -1,6 +1,5 @@
 pub mod Cases
 pub mod Copies
 pub mod Fit32
-pub mod Texts
 pub mod Verdicts
 pub mod Writes

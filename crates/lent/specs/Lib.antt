@@ -1,5 +1,4 @@
 pub mod Fit32
 pub mod Lists
 pub mod Numbers
-pub mod Text
 pub mod Verdicts

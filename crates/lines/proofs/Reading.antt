@@ -25,7 +25,7 @@ use Rattle.lent.specs.Numbers.{numberBytes}
 use Rattle.lent.specs.Lists.{listBytes, put, fill}
 use Rattle.lent.proofs.Cases.{both}
 use Rattle.lent.proofs.Writes.{fill-sets, length-wide}
-use Rattle.lent.specs.Text.{text}
+use Rattle.text.specs.Text.{text}
 use Rattle.lines.specs.Lines.{Line, line, lf, begun, lines, isDigit, value, allDigits, isHex, isSource, isNumbers, offsetDigits, recordDigits, lastLine, mostBytes, mostLines, faulty, recordRules, frameRules}
 use Rattle.lines.specs.Frame.{spelt, hexNumber, pairs, firstBytes, sourceOf, offsetOf, fieldsOf, recordRow, tableOf}
 use Rattle.lines.specs.inner.Reading.{lineSpan, lineTo, tableRoom, ReadRecords}

@@ -25,8 +25,8 @@ use Rattle.names.specs.declared.names.Bound.{Bound}
 use Rattle.names.specs.declared.names.Bound.the-variants.{Unnamed, Named}
 use Rattle.references.specs.declared.pending.Pending.{Pending}
 use Rattle.references.specs.declared.pending.Pending.the-variants.{Nothing, Held}
-use Rattle.collection.specs.declared.collection.Asked.{Asked}
-use Rattle.collection.specs.declared.collection.Asked.the-variants.{WithNames, TableAliases, ColumnAliases, TableRefs}
+use Rattle.clauses.specs.declared.clauses.Asked.{Asked}
+use Rattle.clauses.specs.declared.clauses.Asked.the-variants.{WithNames, TableAliases, ColumnAliases, TableRefs}
 use Rattle.names.specs.Names.{isPart, direct, aliasIn}
 use Rattle.collection.specs.Collection.{nodeGives, collected, collection, ownWith, ownColumns, ownTables, collectionOf}
 use Rattle.references.specs.References.{fresh, referenceRow}

@@ -1,5 +1,5 @@
 // One list of a root, whichever is asked for: its rows, how many they are, and the bytes that they take.
-use collection::collection::Asked;
+use clauses::clauses::Asked;
 use collection::collection::collect_scope;
 use forest::stretch::stretch_of;
 use lent::list::KEPT_BYTES;

@@ -19,10 +19,11 @@ use Rattle.lent.proofs.Fit32.{fit-lists, fit-chosen}
 use Rattle.forest.specs.Forest.{Forest, nil, token, node}
 use Rattle.forest.specs.Limits.{WithinSource, AllWithinSource, Limited, SpansFit, size}
 use Rattle.forest.proofs.Limits.{Fitting, near-chosen}
-use Rattle.names.specs.declared.names.NameRanges.{NameRanges}
+use Rattle.quotes.specs.declared.quotes.NameRanges.{NameRanges}
 use Rattle.names.specs.declared.names.Bound.{Bound}
 use Rattle.names.specs.declared.names.Bound.the-variants.{Unnamed, Named}
-use Rattle.names.specs.Names.{byteAt, isMark, isName, direct, unquoted, nameOf, absentName, binding, firstNamed, lastNamed, withItem, aliasIn}
+use Rattle.names.specs.Names.{isName, direct, binding, firstNamed, lastNamed, withItem, aliasIn}
+use Rattle.quotes.specs.Quotes.{byteAt, isMark, unquoted, nameOf, absentName}
 use Rattle.names.specs.Bindings.{entry, boundIn, withItems, selectAliases, bindingRow}
 
 -- ---- names

@@ -1,24 +1,23 @@
 -- Names token by token: what a loop over the direct tokens of a node makes of each record.
 -- Assumes nothing.
-use Prim.Native.Nat.{ℕ, _+_, _-_, _≤_, _<_}
+use Prim.Native.Nat.{ℕ, _≤_, _<_}
 use mathlib.Core.Path.{_≡_, refl, sym, _∙_}
-use mathlib.Core.Bool.{Bool, true, false, cond, not, _&&_}
+use mathlib.Core.Bool.{Bool, true, false, cond, not}
 use mathlib.Core.Logic.{⊎-elim}
 use mathlib.Core.List.{List, [], _∷_}
 use native.Mathlib.Omega.{arith}
-use borrow.Author.Tests.{eq-eqb, ne-eqb, le-leb, lt-leb}
-use lib.Dec.{eqb}
+use borrow.Author.Tests.{eq-eqb, ne-eqb}
 use Rattle.records.specs.declared.record.Rec.{Rec}
 use Rattle.records.specs.Kinds.{lastNode, bareWord, quotedIdentifier}
 use Rattle.records.specs.Table.{count, kindAt, recordAt}
 use Rattle.forest.specs.Forest.{Forest, nil, token, node}
-use Rattle.lent.specs.Text.{bytesOf, text, says}
+use Rattle.text.specs.Text.{bytesOf, text, says}
 use Rattle.forest.proofs.Walks.{Walk, walk-here}
 use Rattle.forest.proofs.Laws.{node-or-token}
 use Rattle.names.specs.declared.names.NameBinding.{NameBinding}
 use Rattle.names.specs.declared.names.Bound.{Bound}
 use Rattle.names.specs.declared.names.Bound.the-variants.{Unnamed, Named}
-use Rattle.names.specs.Names.{byteAt, isPart, isName, isAs, isMark, unquoted, direct, binding, firstNamed, lastNamed, withItem}
+use Rattle.names.specs.Names.{isPart, isName, isAs, direct, binding, firstNamed, lastNamed, withItem}
 
 -- ---- texts
 
@@ -38,20 +37,6 @@ module _ (src : List ℕ) (t : Rec) where
   pub name-none : (t .kind ≡ quotedIdentifier → ⊥) → (t .kind ≡ bareWord → ⊥) → false ≡ isName src t
   unfolding isName
   name-none h g = rw (ne-eqb (t .kind) quotedIdentifier h, ne-eqb (t .kind) bareWord g)
-
-module _ (src : List ℕ) (start end : ℕ) where
-  pub unquoted-short : end - start < 2 → record { start = start; end = end } ≡ unquoted src start end
-  unfolding unquoted
-  unquoted-short h = rw (lt-leb 2 (end - start) h)
-
-  module _ {a b : ℕ} {m : Bool} (h : 2 ≤ end - start) (p : a ≡ byteAt src start) (q : b ≡ byteAt src (end - 1)) (n : m ≡ isMark a) where
-    pub unquoted-pair : (m && eqb b a) ≡ true → record { start = start + 1; end = end - 1 } ≡ unquoted src start end
-    unfolding unquoted
-    unquoted-pair e = rw (le-leb 2 (end - start) h, ← p, ← q, ← n, e)
-
-    pub unquoted-whole : (m && eqb b a) ≡ false → record { start = start; end = end } ≡ unquoted src start end
-    unfolding unquoted
-    unquoted-whole e = rw (le-leb 2 (end - start) h, ← p, ← q, ← n, e)
 
 -- ---- a test on tokens only
 

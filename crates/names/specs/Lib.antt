@@ -1,3 +1,2 @@
 pub mod Bindings
 pub mod Names
-pub mod worked

@@ -1,27 +1,22 @@
--- Names in a source: which tokens are names, and their ranges with and without their quotes (document 02 §3).
--- src is the source's bytes. A range that has no name is absent.
+-- Names in a source: which tokens are names, and what a node binds.
+-- src is the source's bytes.
 -- Definitions only.
-use Prim.Native.Nat.{ℕ, _+_, _-_}
+use Prim.Native.Nat.{ℕ}
 use mathlib.Core.Bool.{Bool, cond, not, _&&_, _||_}
 use mathlib.Core.List.{List, [], _∷_}
-use lib.Dec.{leb, eqb}
-use lib.ListN.{getD}
+use lib.Dec.{eqb}
 use Rattle.records.specs.declared.record.Rec.{Rec}
 use Rattle.records.specs.Kinds.{bareWord, quotedIdentifier}
 use Rattle.forest.specs.Forest.{Forest, nil, token, node}
-use Rattle.lent.specs.Text.{bytesOf, text, says}
-use Rattle.records.specs.declared.range.Range.{Range}
-use Rattle.names.specs.declared.names.NameRanges.{NameRanges}
+use Rattle.text.specs.Text.{bytesOf, text, says}
+use Rattle.quotes.specs.declared.quotes.NameRanges.{NameRanges}
 use Rattle.names.specs.declared.names.NameBinding.{NameBinding}
 use Rattle.names.specs.declared.names.Bound.{Bound}
 use Rattle.names.specs.declared.names.Bound.the-variants.{Unnamed, Named}
-use Rattle.records.specs.Ranges.{absent, span}
+use Rattle.records.specs.Ranges.{span}
+use Rattle.quotes.specs.Quotes.{nameOf}
 
 -- ---- which tokens are names
-
--- byte i of the source
-abbrev pub byteAt : List ℕ → ℕ → ℕ
-byteAt src i = getD src i 0
 
 -- the token's text is AS in any ASCII case
 unfoldable pub isAs : List ℕ → Rec → Bool
@@ -43,27 +38,6 @@ direct test (token t rest) =
     let more : List Rec = t ∷ on in
     cond (test t) more on
 direct test (node r below rest) = direct test rest
-
--- ---- names with and without their quotes
-
--- a backtick or a double quote
-abbrev pub isMark : ℕ → Bool
-isMark b = eqb b 96 || eqb b 34
-
--- the text between start and end without a matching pair of marks; a lone mark is kept, and marks that do not match
-unfoldable pub unquoted : List ℕ → ℕ → ℕ → Range
-unquoted src start end =
-    let within : Range = record { start = start + 1; end = end - 1 } in
-    let whole : Range = record { start = start; end = end } in
-    cond (leb 2 (end - start) && (isMark (byteAt src start) && eqb (byteAt src (end - 1)) (byteAt src start))) within whole
-
--- the name that a token gives. Outer: the token's range. Inner: a Quoted loses its quotes; a name that is no Quoted has the same range twice
-unfoldable pub nameOf : List ℕ → Rec → NameRanges
-nameOf src t = record { outer = span t; inner = cond (eqb (t .kind) quotedIdentifier) (unquoted src (t .start) (t .end)) (span t) }
-
--- no name: an absent range twice
-abbrev pub absentName : NameRanges
-absentName = record { outer = absent; inner = absent }
 
 -- ---- what a node binds
 

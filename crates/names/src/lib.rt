@@ -1,3 +1,3 @@
-// Name tokens, quotes and bindings: what a WITH item or an alias binds.
+// Name tokens and bindings: what a WITH item or an alias binds.
 pub mod bindings;
 pub mod names;

@@ -1,28 +1,23 @@
-// Names in a source: which tokens are names, and what a name is without its quotes.
+// Names in a source: which tokens are names, and what a WITH item or an alias binds.
 use forest::stretch::child_from;
-use lent::text::says;
-use lent::text::text_of;
+use quotes::quotes::NameRanges;
+use quotes::quotes::name_of;
 use records::kinds::BARE_WORD;
 use records::kinds::QUOTED_IDENTIFIER;
 use records::range::Range;
-use records::range::no_range;
 use records::range::span_of;
 use records::record::Rec;
 use records::record::count_of;
 use records::record::record_at;
+use text::text::says;
+use text::text::text_of;
 ghost use mathlib.Core.Path.{_≡_};
 ghost use mathlib.Core.Bool.{cond};
 ghost use Prim.Native.Nat.{_+_, _≤_, _<_};
 ghost use Rattle.records.specs.Table.{count, recordAt, records};
 ghost use Rattle.forest.specs.Forest.{kids};
 ghost use Rattle.conditions.specs.Conditions.{mostRecords};
-ghost use Rattle.names.specs.Names.{byteAt, isAs, isPart, isName, isMark, unquoted, nameOf, absentName, binding, boundName, withItem, aliasIn};
-
-// A name's two ranges: with its quotes, and without.
-pub struct NameRanges {
-    pub outer: Range,
-    pub inner: Range,
-}
+ghost use Rattle.names.specs.Names.{isAs, isPart, isName, binding, boundName, withItem, aliasIn};
 
 // A name that a WITH item, a table alias or a column alias binds.
 pub struct NameBinding {
@@ -35,13 +30,6 @@ pub struct NameBinding {
 pub enum Bound {
     Unnamed,
     Named(NameBinding),
-}
-
-// Byte i of the source: no span can lead outside it.
-fn byte_at(source: &[u8], i: usize) -> u8
-    ensures { λ r. ⌜ r ≡ byteAt (now (source .entry)) i ⌝ }
-{
-    if i < source.len() { source[i] } else { 0 }
 }
 
 // Is the token's text AS, in any ASCII case?
@@ -69,60 +57,6 @@ fn is_name(source: &[u8], t: Rec) -> bool
         return !is_as(source, t);
     }
     false
-}
-
-// A backtick or a double quote.
-fn is_mark(b: u8) -> bool
-    ensures { λ r. ⌜ r ≡ isMark b ⌝ }
-{
-    (b == b'`') | (b == b'"')
-}
-
-// Strips a matching pair of backticks or double quotes.
-fn unquote(source: &[u8], start: usize, end: usize) -> Range
-    ensures { λ r. ⌜ r ≡ unquoted (now (source .entry)) start end ⌝ }
-{
-    if end < start {
-        return Range { start, end };
-    }
-    if end - start < 2 {
-        return Range { start, end };
-    }
-    let mark = byte_at(source, start);
-    let last = byte_at(source, end - 1);
-    if is_mark(mark) & (last == mark) {
-        Range {
-            start: start + 1,
-            end: end - 1,
-        }
-    } else {
-        Range { start, end }
-    }
-}
-
-// The name that a token gives: a Quoted loses its quotes in the inner range.
-pub fn name_of(source: &[u8], t: Rec) -> NameRanges
-    ensures { λ r. ⌜ r ≡ nameOf (now (source .entry)) t ⌝ }
-{
-    let outer = span_of(t);
-    if t.kind != QUOTED_IDENTIFIER {
-        return NameRanges {
-            outer,
-            inner: outer,
-        };
-    }
-    let inner = unquote(source, t.start, t.end);
-    NameRanges { outer, inner }
-}
-
-// The name where there is none.
-pub fn no_name() -> NameRanges
-    ensures { λ r. ⌜ r ≡ absentName ⌝ }
-{
-    NameRanges {
-        outer: no_range(),
-        inner: no_range(),
-    }
 }
 
 // What the node r binds by its token t.

@@ -1,5 +1,5 @@
 // The scope at the cursor: the aliases, columns and references of its root. The WITH names stand in with_names.
-use collection::collection::Asked;
+use clauses::clauses::Asked;
 use cursor_root::root::root_at;
 use lent::list::Listed;
 use lent::verdict::Verdict;

@@ -20,7 +20,7 @@ use Rattle.lent.specs.Lists.{rowBytes, listBytes}
 use Rattle.lent.proofs.Writes.{length-row, sets-append}
 use Rattle.lent.specs.Fit32.{Fit32, AllFit32}
 use Rattle.lent.proofs.Fit32.{word-back}
-use Rattle.lent.specs.Text.{bytesOf}
+use Rattle.text.specs.Text.{bytesOf}
 use Rattle.print.specs.Printed.{digits, decimal, field, range, fields, ranges, printed, printedList}
 use Rattle.print.specs.inner.Writing.{Put, words, printedWords}
 

@@ -10,10 +10,11 @@ use lib.Dec.{leb}
 use Rattle.records.specs.declared.record.Rec.{Rec}
 use Rattle.records.specs.Kinds.{lastNode}
 use Rattle.forest.specs.Forest.{Forest, nil, token, node}
-use Rattle.names.specs.declared.names.NameRanges.{NameRanges}
+use Rattle.quotes.specs.declared.quotes.NameRanges.{NameRanges}
 use Rattle.references.specs.declared.pending.Pending.{Pending}
 use Rattle.references.specs.declared.pending.Pending.the-variants.{Nothing, Held}
-use Rattle.names.specs.Names.{isPart, direct, nameOf, absentName}
+use Rattle.names.specs.Names.{isPart, direct}
+use Rattle.quotes.specs.Quotes.{nameOf, absentName}
 use Rattle.references.specs.References.{fresh}
 use Rattle.names.proofs.NameLaws.{direct-yes, direct-no, direct-node, part-node}
 

@@ -4,11 +4,11 @@
 use Prim.Native.Nat.{ℕ, _*_}
 use mathlib.Core.List.{List, [], _∷_, _++_}
 use Rattle.records.specs.declared.record.Rec.{Rec}
-use Rattle.names.specs.declared.names.NameRanges.{NameRanges}
+use Rattle.quotes.specs.declared.quotes.NameRanges.{NameRanges}
 use Rattle.references.specs.declared.pending.TableRef.{TableRef}
 use Rattle.references.specs.declared.pending.Pending.{Pending}
 use Rattle.references.specs.declared.pending.Pending.the-variants.{Nothing, Held}
-use Rattle.names.specs.Names.{nameOf, absentName}
+use Rattle.quotes.specs.Quotes.{nameOf, absentName}
 use Rattle.lent.specs.Numbers.{numberBytes}
 
 -- the reference of name node x by its parts. One: table; two: database, table; else none

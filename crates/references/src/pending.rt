@@ -1,9 +1,9 @@
 // A reference, and what a table name gives: the pending reference of a table reading.
 use forest::stretch::child_from;
-use names::names::NameRanges;
 use names::names::is_part;
-use names::names::name_of;
-use names::names::no_name;
+use quotes::quotes::NameRanges;
+use quotes::quotes::name_of;
+use quotes::quotes::no_name;
 use records::record::count_of;
 use records::record::record_at;
 ghost use mathlib.Core.Path.{_≡_};

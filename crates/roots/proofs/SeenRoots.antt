@@ -23,7 +23,8 @@ use Rattle.path.specs.Path.{isSubquery}
 use Rattle.statement.specs.Statement.{isStatement}
 use Rattle.forest.specs.Above.{standsBelow, aboveAmong, above}
 use Rattle.enclosing.specs.Enclosing.{queries, someQuery, beyond, statementAmong, lastRoot, rootsAmong, enclosingRoots}
-use Rattle.seen.specs.Seen.{Item, items, itemsBefore, boundBy, ownSeen, seenOf}
+use Rattle.seen.specs.Seen.{ownSeen, seenOf}
+use Rattle.items.specs.Items.{Item, items, itemsBefore, boundBy}
 use Rattle.enclosing.specs.Offered.{seenOfAll, offeredIn}
 use Rattle.roots.specs.Nearest.{SeenFrom, WithNamesFrom}
 use Rattle.roots.proofs.Covers.{stands-below, Cover, inside-cover, Apart, apart-here, apart-in, nearest-in}

@@ -21,7 +21,7 @@ use Rattle.lists.specs.Scope.{withNames}
 use Rattle.path.specs.Path.{pathAt, isSubquery}
 use Rattle.forest.specs.Above.{standsBelow}
 use Rattle.enclosing.specs.Enclosing.{enclosingRoots}
-use Rattle.seen.specs.Seen.{Item, items}
+use Rattle.items.specs.Items.{Item, items}
 use Rattle.enclosing.specs.Offered.{offeredIn}
 
 -- ---- the nearest root

@@ -18,7 +18,7 @@ use Rattle.table.specs.Rules.{verdict}
 use Rattle.forest.specs.Sense.{Tidy}
 use Rattle.forest.specs.inner.Scan.{Reading, fold, ofTokens}
 use Rattle.forest.specs.Descent.{path as way, pathOf, along}
-use Rattle.lent.specs.Text.{text, bytesOf}
+use Rattle.text.specs.Text.{text, bytesOf}
 use Rattle.lent.proofs.Cases.{lt-or-le}
 use Rattle.forest.proofs.Laws.{from-cons}
 use Rattle.forest.proofs.Scans.{fold-tokens}

@@ -20,7 +20,7 @@ use Rattle.forest.specs.Forest.{Forest, nil, token, node, level, kids, stretchE
 use Rattle.table.specs.Rules.{verdict}
 use Rattle.lent.proofs.Cases.{lt-or-le}
 use Rattle.forest.proofs.Laws.{from-cons, head-part, kids-part}
-use Rattle.names.specs.declared.names.NameRanges.{NameRanges}
+use Rattle.quotes.specs.declared.quotes.NameRanges.{NameRanges}
 use Rattle.names.specs.declared.names.NameBinding.{NameBinding}
 use Rattle.names.specs.declared.names.Bound.{Bound}
 use Rattle.names.specs.declared.names.Bound.the-variants.{Unnamed, Named}
@@ -29,7 +29,8 @@ use Rattle.references.specs.declared.pending.Pending.the-variants.{Nothing, Hel
 use Rattle.statement.specs.declared.statement.Enclosing.{Enclosing}
 use Rattle.statement.specs.declared.statement.Enclosing.the-variants.{Outside, Record}
 use Rattle.records.specs.Ranges.{span, holds}
-use Rattle.names.specs.Names.{isAs, isPart, isName, direct, unquoted, nameOf, firstNamed, lastNamed, withItem, aliasIn, binding as bind}
+use Rattle.names.specs.Names.{isAs, isPart, isName, direct, firstNamed, lastNamed, withItem, aliasIn, binding as bind}
+use Rattle.quotes.specs.Quotes.{unquoted, nameOf}
 use Rattle.collection.specs.Collection.{nodeGives, collected, collection, ownWith, ownColumns, ownTables, collectionAt}
 use Rattle.names.specs.Bindings.{entry, boundIn, withItems, selectAliases}
 use Rattle.references.specs.References.{fresh}

@@ -16,7 +16,7 @@ use Rattle.records.specs.Table.{count, kindAt, startAt, recordAt, run, from, re
 use Rattle.forest.specs.Forest.{Forest, nil, token, node, level, kids}
 use Rattle.table.specs.Rules.{verdict}
 use Rattle.forest.specs.Sense.{Tidy, Linked, inOrder, byDepth, treeOf}
-use Rattle.lent.specs.Text.{text}
+use Rattle.text.specs.Text.{text}
 use Rattle.classes.specs.declared.token_class.TokenClass.{TokenClass}
 use Rattle.classes.specs.declared.token_class.TokenClass.the-variants.{Keyword, Function, StringLiteral, Number, Comment, Operator, Variable, TypeName, Parameter, Property, Unclassed}
 use Rattle.class_list.specs.declared.class_list.ClassedToken.{ClassedToken}

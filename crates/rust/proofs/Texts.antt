@@ -27,7 +27,7 @@ use Rattle.forest.specs.Sense.{Tidy}
 use Rattle.records.specs.Ranges.{span}
 use Rattle.lent.proofs.Cases.{lt-or-le}
 use Rattle.forest.proofs.Sense.{admitted-tidy}
-use Rattle.names.specs.Names.{byteAt, unquoted}
+use Rattle.quotes.specs.Quotes.{byteAt, unquoted}
 use Rattle.roots.proofs.Counts.{decide}
 use Rattle.utf8.specs.Utf8.{further, isAmong, Utf8, Between}
 use Rattle.utf8.proofs.Utf8.{nothing, begins, behind, between-or}

@@ -10,7 +10,7 @@ use Rattle.records.specs.declared.record.Rec.{Rec}
 use Rattle.records.specs.Kinds.{file, queryList, error, selectStatement, insertStatement, createStatement, alterStatement, deleteStatement, updateStatement, selectClause, fromClause, joinClause, prewhereClause, whereClause, groupByClause, havingClause, orderByClause, settingsClause, settingList, engineClause, formatClause, insertFormatClause, joinConstraint, tableIdentifier, columnDefinition, columnTypeDefinition, columnCodec, dataType, dataTypeParameters, functionCall, aggregateFunction, identifier, whitespace, comment, bareWord, comma, openingRound}
 use Rattle.records.specs.Table.{recordAt, records}
 use Rattle.forest.specs.Forest.{Forest, nil, token, node, kids, inside}
-use Rattle.lent.specs.Text.{text, bytesOf, same, says}
+use Rattle.text.specs.Text.{text, bytesOf, same, says}
 use Rattle.records.specs.declared.range.Range.{Range}
 use Rattle.tokens.specs.declared.last_token.Name.{Name}
 use Rattle.tokens.specs.declared.last_token.Name.the-variants.{Nameless, Named}

@@ -11,7 +11,7 @@ use Rattle.records.specs.declared.record.Rec.{Rec}
 use Rattle.records.specs.Kinds.{tableIdentifier, tableExpression, tableAlias, columnAlias, dataType, dataTypeParameters, nestedDataType, functionCall, aggregateFunction, tableFunction, identifier, columnReference, qualifiedName, queryParameterExpression, databaseDefinition, tableDefinition, viewDefinition, materializedViewDefinition, dictionaryDefinition, expression, comment, bareWord, quotedIdentifier, number, stringToken, hereDoc, plus, arrow}
 use Rattle.records.specs.Table.{kindAt, records}
 use Rattle.forest.specs.Forest.{Forest, nil, token, node, kids}
-use Rattle.lent.specs.Text.{bytesOf, upperWord, text}
+use Rattle.text.specs.Text.{bytesOf, upperWord, text}
 use Rattle.class_list.specs.declared.class_list.ClassedToken.{ClassedToken}
 use Rattle.keywords.specs.Keywords.{keywords, elem}
 use Rattle.class_list.specs.Classes.{classesOf}

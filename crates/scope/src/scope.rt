@@ -1,5 +1,5 @@
 // The four lists of a root: its WITH names, table aliases, column aliases and table references.
-use collection::collection::Asked;
+use clauses::clauses::Asked;
 use lent::list::Listed;
 use lists::lists::list_of;
 ghost use lib.ListN.{length};

@@ -25,7 +25,8 @@ use Rattle.names.specs.Names.{withItem}
 use Rattle.names.specs.Bindings.{entry, bindingRow}
 use Rattle.names.proofs.Fitting.{BoundFits, item-fits, entry-fits, entry-one}
 use Rattle.collection.proofs.Fitting.{collection-fits, collection-few}
-use Rattle.seen.specs.Seen.{Item, items, itemsBefore, boundBy, ownSeen, seenOf}
+use Rattle.seen.specs.Seen.{ownSeen, seenOf}
+use Rattle.items.specs.Items.{Item, items, itemsBefore, boundBy}
 
 -- ---- the numbers
 

@@ -18,11 +18,12 @@ use Rattle.lent.proofs.Fit32.{fit-append, fit-lists, fit-chosen}
 use Rattle.forest.specs.Forest.{Forest, nil, token, node}
 use Rattle.forest.specs.Limits.{AllWithinSource, Limited, size}
 use Rattle.forest.proofs.Limits.{Inherited, limited-inherited, Fitting, fitting-inherited}
-use Rattle.names.specs.declared.names.NameRanges.{NameRanges}
+use Rattle.quotes.specs.declared.quotes.NameRanges.{NameRanges}
 use Rattle.names.specs.declared.names.NameBinding.{NameBinding}
 use Rattle.names.specs.declared.names.Bound.{Bound}
 use Rattle.names.specs.declared.names.Bound.the-variants.{Unnamed, Named}
-use Rattle.names.specs.Names.{isPart, isName, direct, nameOf, absentName, binding, boundName, lastNamed, aliasIn}
+use Rattle.names.specs.Names.{isPart, isName, direct, binding, boundName, lastNamed, aliasIn}
+use Rattle.quotes.specs.Quotes.{nameOf, absentName}
 use Rattle.names.specs.Bindings.{bindingRow}
 use Rattle.names.proofs.Fitting.{RangesFit, absent-fits, name-fits, direct-near, BoundFits, alias-fits}
 use Rattle.references.specs.declared.pending.TableRef.{TableRef}

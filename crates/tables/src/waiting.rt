@@ -1,9 +1,9 @@
 // The pending reference by the records that make it.
 use forest::stretch::stretch_of;
 use names::names::Bound;
-use names::names::NameRanges;
 use names::names::bound_name;
 use names::names::extract_alias_name;
+use quotes::quotes::NameRanges;
 use references::pending::Pending;
 use references::pending::TableRef;
 use references::pending::extract_table_identifier;

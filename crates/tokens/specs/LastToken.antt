@@ -8,7 +8,7 @@ use Rattle.records.specs.declared.record.Rec.{Rec}
 use Rattle.records.specs.Kinds.{whitespace, comment}
 use Rattle.forest.specs.Forest.{Forest}
 use Rattle.forest.specs.Tokens.{reached}
-use Rattle.lent.specs.Text.{text, bytesOf, same, says}
+use Rattle.text.specs.Text.{text, bytesOf, same, says}
 use Rattle.tokens.specs.declared.last_token.Name.{Name}
 use Rattle.tokens.specs.declared.last_token.Name.the-variants.{Nameless, Named}
 use Rattle.tokens.specs.declared.last_token.LastTwo.{LastTwo}

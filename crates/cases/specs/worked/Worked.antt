@@ -13,14 +13,15 @@ use Rattle.forest.specs.Forest.{level, kids, extent, stretchEnd}
 use Rattle.conditions.specs.Conditions.{misplaced, nearest, lastEnd, badSpan}
 use Rattle.refusals.specs.ByRecord.{rulesFrom}
 use Rattle.lent.specs.Lists.{rowBytes, listBytes}
-use Rattle.lent.specs.Text.{text, bytesOf, upper, says}
+use Rattle.text.specs.Text.{text, bytesOf, upper, says}
 use Rattle.forest.specs.Tokens.{only, tokensOf}
 use Rattle.forest.specs.Descent.{path, pathOf, along}
 use Rattle.keywords.specs.Keywords.{isKeyword, keywords}
 use Rattle.classes.specs.TokenClass.{between, judged, bareword, byParent, classOf, numberOf}
 use Rattle.class_list.specs.Classes.{entryWith, entryOf, classes}
 use Rattle.brackets.specs.Brackets.{fits, closed, stackStep, left}
-use Rattle.names.specs.Names.{isAs, isPart, isName, direct, unquoted, nameOf, binding, firstNamed, lastNamed}
+use Rattle.names.specs.Names.{isAs, isPart, isName, direct, binding, firstNamed, lastNamed}
+use Rattle.quotes.specs.Quotes.{unquoted, nameOf}
 use Rattle.collection.specs.Collection.{nodeGives, collected, collection, ownWith, ownColumns, ownTables}
 use Rattle.names.specs.Bindings.{entry, boundIn}
 use Rattle.references.specs.References.{fresh}

@@ -4,8 +4,8 @@ use Prim.Native.Nat.{ℕ, _*_}
 use mathlib.Core.List.{List, map}
 use Rattle.forest.specs.Forest.{Forest}
 use Rattle.conditions.specs.Conditions.{mostRecords}
-use Rattle.collection.specs.declared.collection.Asked.{Asked}
-use Rattle.collection.specs.declared.collection.Asked.the-variants.{WithNames, TableAliases, ColumnAliases, TableRefs}
+use Rattle.clauses.specs.declared.clauses.Asked.{Asked}
+use Rattle.clauses.specs.declared.clauses.Asked.the-variants.{WithNames, TableAliases, ColumnAliases, TableRefs}
 use Rattle.tables.specs.declared.tables.Reads.the-variants.{Aliases, References}
 use Rattle.collection.specs.Collection.{ownWith, ownColumns, ownTables}
 use Rattle.names.specs.Bindings.{bindingRow}

@@ -9,7 +9,7 @@ use Rattle.records.specs.Table.{recordAt, run, from}
 use Rattle.forest.specs.Forest.{level, kids}
 use Rattle.forest.specs.Tokens.{only, tokensOf}
 use Rattle.forest.specs.Descent.{path, pathOf, along}
-use Rattle.lent.specs.Text.{text, bytesOf, upper, says}
+use Rattle.text.specs.Text.{text, bytesOf, upper, says}
 use Rattle.table.specs.worked.Worked.{rec}
 use Rattle.path.specs.Path.{deepestOr, onPath, nextOf, isDeepest, deepestOver}
 use Rattle.tokens.specs.LastToken.{lastOr, init, lastTwo, isText, isWord, dotted, isJoinWord}

@@ -2,8 +2,8 @@
 -- Definitions only. A reader of the questions needs none of them.
 use Prim.Native.Nat.{ℕ}
 use mathlib.Core.List.{List}
-use Rattle.collection.specs.declared.collection.Asked.{Asked}
-use Rattle.collection.specs.declared.collection.Asked.the-variants.{WithNames, TableAliases, ColumnAliases, TableRefs}
+use Rattle.clauses.specs.declared.clauses.Asked.{Asked}
+use Rattle.clauses.specs.declared.clauses.Asked.the-variants.{WithNames, TableAliases, ColumnAliases, TableRefs}
 use Rattle.collection.specs.Collection.{collectionAt}
 use Rattle.collection.specs.inner.Rows.{ownRows}
 use Rattle.references.specs.References.{referenceBytes}

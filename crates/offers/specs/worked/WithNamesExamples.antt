@@ -8,15 +8,17 @@ use Rattle.records.specs.Kinds.{file, selectStatement, withClause, selectClause
 use Rattle.lent.specs.Numbers.{word}
 use Rattle.records.specs.Table.{recordAt, run, from}
 use Rattle.forest.specs.Forest.{level, kids, extent, stretchEnd}
-use Rattle.lent.specs.Text.{bytesOf, upper, text, says}
+use Rattle.text.specs.Text.{bytesOf, upper, text, says}
 use Rattle.table.specs.worked.Worked.{rec}
 use Rattle.names.specs.declared.names.NameBinding.{NameBinding}
-use Rattle.names.specs.Names.{isAs, isName, direct, unquoted, nameOf, binding, firstNamed}
+use Rattle.names.specs.Names.{isAs, isName, direct, binding, firstNamed}
+use Rattle.quotes.specs.Quotes.{unquoted, nameOf}
 use Rattle.names.specs.Bindings.{entry, boundIn}
 use Rattle.collection.specs.Collection.{nodeGives, collected, collection, ownWith}
 use Rattle.forest.specs.Above.{aboveAmong}
 use Rattle.enclosing.specs.Enclosing.{queries, someQuery, beyond, statementAmong, lastRoot, rootsAmong, enclosingRoots}
-use Rattle.seen.specs.Seen.{items, itemsBefore, boundBy, ownSeen}
+use Rattle.seen.specs.Seen.{ownSeen}
+use Rattle.items.specs.Items.{items, itemsBefore, boundBy}
 use Rattle.enclosing.specs.Offered.{seenOfAll, offeredIn}
 
 -- the names by their place: a at 0, b at 1, c at 2, i at 3, o at 4

@@ -14,7 +14,7 @@ use Rattle.conditions.specs.Conditions.{misplaced, nearest, lastEnd, badSpan}
 use Rattle.refusals.specs.ByRecord.{rulesFrom}
 use Rattle.table.specs.Rules.{verdict}
 use Rattle.forest.specs.Places.{Place, places, nodesOf, sum}
-use Rattle.lent.specs.Text.{bytesOf}
+use Rattle.text.specs.Text.{bytesOf}
 use Rattle.table.specs.worked.Worked.{rec, child}
 use Rattle.names.specs.Names.{isPart, direct}
 use Rattle.references.specs.declared.pending.TableRef.{TableRef}

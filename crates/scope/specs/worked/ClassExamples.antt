@@ -6,7 +6,7 @@ use mathlib.Core.List.{List, [], _∷_, _++_}
 use Rattle.lent.specs.Numbers.{word}
 use Rattle.records.specs.Table.{recordAt, run, from}
 use Rattle.forest.specs.Forest.{level, kids}
-use Rattle.lent.specs.Text.{bytesOf, upper, text}
+use Rattle.text.specs.Text.{bytesOf, upper, text}
 use Rattle.table.specs.worked.Worked.{rec}
 use Rattle.classes.specs.declared.token_class.TokenClass.the-variants.{Keyword, Function, StringLiteral, Number, Comment, Operator, Variable, TypeName, Parameter, Property, Unclassed}
 use Rattle.class_list.specs.declared.class_list.ClassedToken.{ClassedToken}

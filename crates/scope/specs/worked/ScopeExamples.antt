@@ -7,8 +7,9 @@ use Rattle.lent.specs.Numbers.{word}
 use Rattle.records.specs.Table.{recordAt, run, from}
 use Rattle.forest.specs.Forest.{level, kids, extent, stretchEnd}
 use Rattle.table.specs.worked.Worked.{rec}
-use Rattle.lent.specs.Text.{bytesOf, upper, text, says}
-use Rattle.names.specs.Names.{isAs, isPart, isName, direct, unquoted, nameOf, binding, firstNamed, lastNamed}
+use Rattle.text.specs.Text.{bytesOf, upper, text, says}
+use Rattle.names.specs.Names.{isAs, isPart, isName, direct, binding, firstNamed, lastNamed}
+use Rattle.quotes.specs.Quotes.{unquoted, nameOf}
 use Rattle.collection.specs.Collection.{nodeGives, collected, collection, ownWith, ownColumns, ownTables}
 use Rattle.names.specs.Bindings.{entry, boundIn, bindingRow}
 use Rattle.references.specs.References.{fresh, referenceRow}

@@ -1,12 +1,9 @@
--- How many bytes there can be, so that no place wraps.
+-- How many bytes a root's clauses can take, so that no place wraps.
 -- Definitions only. A reader of the promise needs none of them.
 use Prim.Native.Nat.{ℕ, _*_}
 use Rattle.conditions.specs.Conditions.{mostRecords}
-use Rattle.names.specs.Bindings.{bindingBytes}
+use Rattle.items.specs.inner.Room.{clauseBytes}
 
--- of a clause's items, and of a root's clauses
-abbrev pub clauseBytes : ℕ
-clauseBytes = bindingBytes * mostRecords
-
+-- of a root's clauses
 abbrev pub rootBytes : ℕ
 rootBytes = clauseBytes * mostRecords

@@ -21,7 +21,7 @@ use Rattle.collection.proofs.collection.collect_scope.Reads as collect-
 use Rattle.collection.proofs.collection.collect_scope.Kinds as collect-scope-kinds
 use Rattle.collection.proofs.collection.+collect_scope.Lts-collect_scope as collect-scope-lts
 use Rattle.collection.proofs.collection.own_part.Reads as own-part-reads
-use Rattle.collection.proofs.clauses.hands_on.Reads as hands-on-reads
+use Rattle.clauses.proofs.clauses.hands_on.Reads as hands-on-reads
 use Rattle.records.proofs.record.count_of.Reads as count-of-reads
 use Rattle.records.proofs.record.kind_at.Reads as kind-at-reads
 use Rattle.forest.proofs.nodes.node_from.Reads as node-from-reads

@@ -1,5 +1,5 @@
 use Rattle.brackets.specs.inner.BracketStack.{hintBy}
-use Rattle.lent.specs.Text.{bytesOf}
+use Rattle.text.specs.Text.{bytesOf}
 use mathlib.Core.Path.{_∙_}
 use borrow.Author.Needs.{needs}
 use Rattle.hint.proofs.hint.hint_on.Statement.{statement}

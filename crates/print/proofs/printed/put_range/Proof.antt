@@ -1,4 +1,4 @@
-use Rattle.lent.specs.Text.{bytesOf}
+use Rattle.text.specs.Text.{bytesOf}
 use Rattle.print.proofs.Writing.{put-then, range-absent, range-present}
 use native.Mathlib.Omega.{arith}
 use borrow.Author.Needs.{needs}

@@ -1,4 +1,4 @@
-use Rattle.lent.specs.Text.{bytesOf}
+use Rattle.text.specs.Text.{bytesOf}
 use Rattle.print.proofs.Writing.{put-then}
 use Rattle.report.proofs.Answers.{answer-room}
 use native.Mathlib.Omega.{arith}

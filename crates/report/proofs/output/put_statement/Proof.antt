@@ -1,4 +1,4 @@
-use Rattle.lent.specs.Text.{bytesOf}
+use Rattle.text.specs.Text.{bytesOf}
 use Rattle.print.specs.Printed.{statementLine}
 use Rattle.report.proofs.Answers.{statement-found, statement-none, statement-denied}
 use mathlib.Core.Path.{sym, _∙_}

@@ -1,5 +1,5 @@
 use Rattle.seen.proofs.SeenLaws.{Seeing, see-start, see-alone, see-end, see-stop, see-over, see-clause, see-on}
-use Rattle.seen.specs.inner.Room.{clauseBytes}
+use Rattle.items.specs.inner.Room.{clauseBytes}
 use lib.ListN.{length}
 use mathlib.Core.Path.{_≡_}
 use Prim.Native.Nat.{_+_, _-_, _*_, _≤_}
