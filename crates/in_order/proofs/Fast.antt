@@ -1,5 +1,5 @@
 -- The fast check: a loop that only says that every record is in order.
---     InOrder, order-start, -up, -node, -deepest, -token, -end    the loop: what it says is that the rules admit the table
+--     order-start, -at, -node, -deepest, -token, -end    record by record: what it says at the end is that the rules admit the table
 -- Assumes nothing.
 use Prim.Native.Nat.{ℕ, zero, suc, _+_, _-_, _≤_, _<_}
 use mathlib.Core.Path.{_≡_, refl, sym, ap, _∙_}
@@ -21,7 +21,7 @@ use Rattle.conditions.specs.Conditions.{mostDepth, unlisted, misplaced, tooDeep
 use Rattle.refusals.specs.ByRecord.{rulesFrom}
 use Rattle.lent.specs.Verdicts.{first}
 use Rattle.conditions.specs.inner.Step.{depths, deepestNext, knownAt, outOfPlace}
-use Rattle.in_order.specs.inner.Fast.{firstFits, spanFits}
+use Rattle.in_order.specs.inner.Fast.{firstFits, spanFits, Kept, InOrder}
 use Rattle.lent.proofs.Cases.{lt-or-le, eq-or-not, both}
 use Rattle.conditions.proofs.Steps.{place-at}
 
@@ -34,26 +34,7 @@ node-token : (k : ℕ) → k ≤ lastNode → isToken k ≡ false
 node-token k h = rw (lt-leb otherToken k (omega arith))
 
 module _ (t : List ℕ) where
-  -- record j keeps its rules, but for where the source ends
-  pub record Kept (j : ℕ) : Type 0 where
-    pub listed : unlisted t j ≡ false
-    pub placed : misplaced t j ≡ false
-    pub shallow : tooDeep t j ≡ false
-    pub parented : wrongParent t j ≡ false
-    pub spanned : isToken (kindAt t j) ≡ true → (startAt t j ≤ endAt t j) × (lastEnd t j ≤ startAt t j)
-
-  -- before record i
-  pub record InOrder (i limit parent last : ℕ) (above : List ℕ) : Type 0 where
-    pub kept : (j : ℕ) → j < i → Kept j
-    pub reach : limit ≤ deepestNext t i
-    pub shallow : limit ≤ mostDepth
-    pub below : 1 ≤ limit
-    pub carried : parent ≡ nearest t limit i
-    pub ends : last ≡ lastEnd t i
-    pub wide : length above ≡ depths
-    pub parents : (d : ℕ) → 1 ≤ d → d ≤ limit → getD above d 0 ≡ nearest t d i
-
-  pub order-start : firstFits t ≡ true → InOrder 1 1 0 0 (replicate depths 0)
+  pub order-start : firstFits t ≡ true → InOrder t 1 1 0 0 (replicate depths 0)
   unfolding misplaced nearest deepestNext lastEnd
   order-start e =
       let b = both (isNode (kindAt t 0) && eqb (depthAt t 0) 0) (eqb (parentAt t 0) 0) e in
@@ -81,8 +62,8 @@ module _ (t : List ℕ) where
       }
 
   -- record i goes up, to depth d
-  pub order-up : {i limit parent last : ℕ} {above : List ℕ} → InOrder i limit parent last above → {d p : ℕ} → 1 ≤ d → d ≤ limit → p ≡ getD above d 0
-      → InOrder i d p last above
+  pub order-up : {i limit parent last : ℕ} {above : List ℕ} → InOrder t i limit parent last above → {d p : ℕ} → 1 ≤ d → d ≤ limit → p ≡ getD above d 0
+      → InOrder t i d p last above
   order-up w {d} u l e =
       record {
         kept = w .kept;
@@ -95,14 +76,14 @@ module _ (t : List ℕ) where
         parents = λ n a b. w .parents n a (omega arith);
       }
 
-  -- record i is as deep as it may be, or goes up: from here on the limit is its depth
-  pub order-at : {i limit parent last d p : ℕ} {above : List ℕ} → InOrder i limit parent last above
-      → ((1 ≤ d) × (d ≤ limit) × (d ≡ depthAt t i) × (p ≡ getD above d 0)) ⊎ ((d ≡ limit) × (limit ≡ depthAt t i) × (p ≡ parent))
-      → InOrder i d p last above × (d ≡ depthAt t i)
-  order-at w (inl (a, b, e, q)) = (order-up w a b q, e)
-  order-at w (inr (z, e, q)) = (rw (z, q) w, z ∙ e)
+  -- record i, of depth d, goes up, or is as deep as it may be: from here on the limit is its depth
+  pub order-at : {i limit parent last d p : ℕ} {above : List ℕ} → InOrder t i limit parent last above → d ≡ depthAt t i
+      → ((d ≤ limit) × (d ≡ 0 → ⊥) × (p ≡ getD above d 0)) ⊎ ((d ≡ limit) × (p ≡ parent))
+      → InOrder t i d p last above × (d ≡ depthAt t i)
+  order-at w e (inl (l, z, q)) = (order-up w (omega (arith, z)) l q, e)
+  order-at w e (inr (z, q)) = (rw (z, q) w, e)
 
-  module _ {i d parent last : ℕ} {above : List ℕ} (w : InOrder i d parent last above) (s : 1 ≤ i) (e : d ≡ depthAt t i) (p : parentAt t i ≡ parent) where
+  module _ {i d parent last : ℕ} {above : List ℕ} (w : InOrder t i d parent last above) (s : 1 ≤ i) (e : d ≡ depthAt t i) (p : parentAt t i ≡ parent) where
     place : misplaced t i ≡ false
     place = sym (place-at t i) ∙ (unfold outOfPlace knownAt recordAt in rw (zero-add i, ne-eqb i 0 (λ z. omega arith), ← e, ne-eqb d 0 (λ z. omega (arith, w .below)), le-ltb (deepestNext t i) d (w .reach)))
 
@@ -113,7 +94,7 @@ module _ (t : List ℕ) where
     right = rw (eq-eqb (parentAt t i) (parentOf t i) (p ∙ w .carried ∙ rw e))
 
     -- the records before, and this one
-    further : Kept i → (j : ℕ) → j < suc i → Kept j
+    further : Kept t i → (j : ℕ) → j < suc i → Kept t j
     further k j g = ⊎-elim (λ x. w .kept j x) (λ x. let z : j ≡ i = omega arith in rw z k) (lt-or-le j i)
 
     -- the last record one less deep than k is the same after this one, but for what is below it
@@ -122,7 +103,7 @@ module _ (t : List ℕ) where
     same k f = rw (← e, ne-eqb (d + 1) k f)
 
     -- a node is kept
-    node-kept : kindAt t i ≤ lastNode → Kept i
+    node-kept : kindAt t i ≤ lastNode → Kept t i
     node-kept k =
         record {
           listed = rw (le-leb (kindAt t i) lastNode k);
@@ -132,7 +113,7 @@ module _ (t : List ℕ) where
           spanned = λ y. absurd (let x : isToken (kindAt t i) ≡ false = node-token (kindAt t i) k in let z : _≡_ {A = ℕ} 0 1 = cc in omega arith);
         }
 
-    pub order-node : kindAt t i ≤ lastNode → d < mostDepth → InOrder (i + 1) (d + 1) i last (set above (d + 1) i)
+    pub order-node : kindAt t i ≤ lastNode → d < mostDepth → InOrder t (i + 1) (d + 1) i last (set above (d + 1) i)
     unfolding nearest deepestNext lastEnd
     order-node k l =
         let x : isToken (kindAt t i) ≡ false = node-token (kindAt t i) k in
@@ -156,7 +137,7 @@ module _ (t : List ℕ) where
             (eq-or-not (d + 1) n)
 
     -- nothing may stand below a node that is as deep as one may be
-    pub order-deepest : kindAt t i ≤ lastNode → mostDepth ≤ d → InOrder (i + 1) d parent last above
+    pub order-deepest : kindAt t i ≤ lastNode → mostDepth ≤ d → InOrder t (i + 1) d parent last above
     unfolding deepestNext lastEnd
     order-deepest k l =
         let x : isToken (kindAt t i) ≡ false = node-token (kindAt t i) k in
@@ -173,7 +154,7 @@ module _ (t : List ℕ) where
         })
 
     pub order-token : {last′ : ℕ} → isToken (kindAt t i) ≡ true → spanFits (startAt t i) (endAt t i) last ≡ true → last′ ≡ endAt t i
-        → InOrder (i + 1) d parent last′ above
+        → InOrder t (i + 1) d parent last′ above
     unfolding deepestNext lastEnd
     order-token x f q =
         let b = both (not (ltb (startAt t i) last)) (leb (startAt t i) (endAt t i)) f in
@@ -206,7 +187,7 @@ module _ (t : List ℕ) where
 
   -- ---- after the last record
 
-  module _ (i : ℕ) (kept : (j : ℕ) → j < i → Kept j) where
+  module _ (i : ℕ) (kept : (j : ℕ) → j < i → Kept t j) where
     -- ends rise
     rising : (m j : ℕ) → m ≤ i → j < m → isToken (kindAt t j) ≡ true → endAt t j ≤ lastEnd t m
     unfolding lastEnd
@@ -247,7 +228,7 @@ module _ (t : List ℕ) where
         let y = kept k (omega arith) in
         rw (y .listed, y .placed, y .shallow, y .parented, span n k l (omega arith)) (all n c (suc k) l (omega arith))
 
-  pub order-end : {i limit parent last n : ℕ} {above : List ℕ} → InOrder i limit parent last above → count t ≤ i → i ≤ count t → last ≤ n
+  pub order-end : {i limit parent last n : ℕ} {above : List ℕ} → InOrder t i limit parent last above → count t ≤ i → i ≤ count t → last ≤ n
       → Admitted ≡ first (rulesFrom t n 0 (count t))
   order-end {i} {limit} {parent} {last} {n} w a b l =
       let z : i ≡ count t = omega arith in

@@ -10,14 +10,14 @@ use records::record::kind_at;
 use records::record::parent_at;
 use records::record::start_at;
 ghost use mathlib.Core.Path.{_≡_};
-ghost use mathlib.Core.Bool.{true};
-ghost use Prim.Native.Nat.{_≤_, _<_};
+ghost use mathlib.Core.Bool.{true, false};
+ghost use Prim.Native.Nat.{_+_, _≤_, _<_};
 ghost use Rattle.lent.specs.Verdicts.{first};
 ghost use Rattle.lent.specs.declared.verdict.Verdict.the-variants.{Admitted};
 ghost use Rattle.records.specs.Table.{count};
 ghost use Rattle.conditions.specs.Conditions.{mostRecords};
 ghost use Rattle.refusals.specs.ByRecord.{rulesFrom};
-ghost use Rattle.in_order.specs.inner.Fast.{firstFits, spanFits};
+ghost use Rattle.in_order.specs.inner.Fast.{firstFits, spanFits, InOrder};
 
 // Record 0 is a node of depth 0 that carries 0.
 fn first_fits(table: &[u8]) -> bool
@@ -43,9 +43,81 @@ fn span_fits(start: usize, end: usize, last: usize) -> bool
     start <= end
 }
 
-// Is every record in order, for a source of n bytes? It says only that, and says it fast: where it is so, nothing more need be looked at. `limit` is how
-// deep the record may be, and how deep it is unless it goes up; `parent` is the node that it then carries; `nodes[d]` the last node one less deep than d;
-// `last` the last token's end: ends rise, so that one within the source has all within it.
+// What a record is expected to be, if those before it fit: how deep it may be, and is unless it goes up; the node that it then carries; and no earlier than the
+// last token's end.
+struct Expected {
+    fits: bool,
+    limit: usize,
+    parent: u32,
+    last: usize,
+}
+
+// The record before does not fit.
+fn unexpected() -> Expected
+    ensures { λ r. ⌜ r .fits ≡ false ⌝ }
+{
+    Expected {
+        fits: false,
+        limit: 1,
+        parent: 0,
+        last: 0,
+    }
+}
+
+// What is expected after record i. `nodes[d]` is the last node one less deep than d.
+fn follow(table: &[u8], i: usize, e: Expected, nodes: &mut [u32]) -> Expected
+    requires { ⌜ ((1 ≤ i) × (i < count (now table)) × (count (now table) ≤ mostRecords)) × InOrder (now table) i (e .limit) (e .parent) (e .last) (now nodes) ⌝ }
+    ensures { λ r. ⌜ (r .fits ≡ true → InOrder (now (table .entry)) (i + 1) (r .limit) (r .parent) (r .last) (now (nodes .exit))) ⌝ }
+{
+    let depth = depth_at(table, i);
+    let mut parent = e.parent;
+    if depth != e.limit {
+        if e.limit < depth {
+            return unexpected();
+        }
+        if depth == 0 {
+            return unexpected();
+        }
+        parent = nodes[depth];
+    }
+    if parent_at(table, i) as u32 != parent {
+        return unexpected();
+    }
+    let kind = kind_at(table, i);
+    if is_token(kind) {
+        let end = end_at(table, i);
+        if !span_fits(start_at(table, i), end, e.last) {
+            return unexpected();
+        }
+        return Expected {
+            fits: true,
+            limit: depth,
+            parent,
+            last: end,
+        };
+    }
+    if LAST_NODE < kind {
+        return unexpected();
+    }
+    if MOST_DEPTH <= depth {
+        return Expected {
+            fits: true,
+            limit: depth,
+            parent,
+            last: e.last,
+        };
+    }
+    nodes[depth + 1] = i as u32;
+    Expected {
+        fits: true,
+        limit: depth + 1,
+        parent: i as u32,
+        last: e.last,
+    }
+}
+
+// Is every record in order, for a source of n bytes? It says only that, and says it fast, two records at a turn: where it is so, nothing more need be looked
+// at. The source's end is looked at once: ends rise, so that the last within it has all within it.
 pub fn all_in_order(table: &[u8], n: usize) -> bool
     requires { ⌜ (0 < count (now table)) × (count (now table) ≤ mostRecords) ⌝ }
     ensures { λ r. ⌜ (r ≡ true → Admitted ≡ first (rulesFrom (now (table .entry)) n 0 (count (now (table .entry))))) ⌝ }
@@ -54,44 +126,32 @@ pub fn all_in_order(table: &[u8], n: usize) -> bool
     if !first_fits(table) {
         return false;
     }
-    let mut nodes = [0; DEPTHS];
-    let mut limit = 1;
-    let mut parent = 0u32;
-    let mut last = 0;
+    let mut nodes = [0u32; DEPTHS];
+    let mut e = Expected {
+        fits: true,
+        limit: 1,
+        parent: 0,
+        last: 0,
+    };
+    let before_last = m - 1;
     let mut i = 1;
-    while i < m {
-        if limit != depth_at(table, i) {
-            if limit < depth_at(table, i) {
-                return false;
-            }
-            limit = depth_at(table, i);
-            parent = nodes[limit];
-            if limit == 0 {
-                return false;
-            }
-        }
-        if parent_at(table, i) as u32 != parent {
+    while i < before_last {
+        e = follow(table, i, e, &mut nodes);
+        if !e.fits {
             return false;
         }
-        let kind = kind_at(table, i);
-        if is_token(kind) {
-            let end = end_at(table, i);
-            if !span_fits(start_at(table, i), end, last) {
-                return false;
-            }
-            last = end;
-            i += 1;
-        } else {
-            if LAST_NODE < kind {
-                return false;
-            }
-            if limit < MOST_DEPTH {
-                limit += 1;
-                parent = i as u32;
-                nodes[limit] = parent;
-            }
-            i += 1;
+        e = follow(table, i + 1, e, &mut nodes);
+        if !e.fits {
+            return false;
         }
+        i += 2;
     }
-    last <= n
+    if i < m {
+        e = follow(table, i, e, &mut nodes);
+        if !e.fits {
+            return false;
+        }
+        return e.last <= n;
+    }
+    e.last <= n
 }
