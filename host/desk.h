@@ -4,7 +4,7 @@
  * A slice is a pointer and a length in bytes; with length 0 the pointer may be null. No call needs a check before it, keeps a pointer,
  * allocates, or writes outside `out` and the lists' buffers. What is written must not overlap another slice.
  * Threads: there is no state. Any number of threads may ask at once; what one reads or writes in a call no other may write in that time.
- * Stack: no question needs more than 46 KiB (docs/MEASURES.md has each).
+ * Stack: no question needs more than 32 KiB (docs/MEASURES.md has each).
  *
  * The table: DESK_RECORD_BYTES a record, five little-endian numbers of 32 bits: kind, depth, start, end, parent. Records stand in document order, a
  * node before its children. The parent is the number of the nearest earlier record whose depth is one less; record 0 carries 0.
