@@ -11,7 +11,7 @@ use lib.Dec.{eqb}
 use Rattle.records.specs.Kinds.{subqueryExpression}
 use Rattle.records.specs.Table.{count, kindAt, recordAt, from, records}
 use Rattle.forest.proofs.Laws.{from-end, from-cons}
-use Rattle.clauses.specs.declared.clauses.Asked.{Asked}
+use Rattle.clauses.specs.declared.clauses.ScopeList.{ScopeList}
 use Rattle.clauses.specs.inner.Clauses.{inKinds, someKind, someClause}
 
 -- whether a record from i on has one of the kinds f to l is b
@@ -35,7 +35,7 @@ module _ {s : List ℕ} {f l i : ℕ} {b : Bool} (w : Unmet s f l i b) where
     unfolding someKind recordAt
     unmet-on y q = record { left = rw q (rw (from-cons s 0 i h, ← e, ← t, y) at (w .left)) }
 
-module _ (asked : Asked) (s : List ℕ) {k : ℕ} (e : k ≡ kindAt s 0) where
+module _ (asked : ScopeList) (s : List ℕ) {k : ℕ} (e : k ≡ kindAt s 0) where
   pub hands-sub : k ≡ subqueryExpression → false ≡ (not (eqb (kindAt s 0) subqueryExpression) && someClause asked (records 0 s))
   hands-sub q = rw (eq-eqb (kindAt s 0) subqueryExpression (sym e ∙ q))
 

@@ -14,8 +14,8 @@ ghost use Rattle.records.specs.Kinds.{subqueryExpression};
 ghost use Rattle.records.specs.Table.{count, kindAt, from, records};
 ghost use Rattle.clauses.specs.inner.Clauses.{inKinds, someKind, someClause};
 
-// The list that is asked for.
-pub enum Asked {
+// A list of a scope: which one is asked for.
+pub enum ScopeList {
     WithNames,
     TableAliases,
     ColumnAliases,
@@ -70,19 +70,19 @@ fn has_kind(s: &[u8], first: usize, last: usize) -> bool
 }
 
 // Has the stretch s a clause that the list is read from?
-fn has_clause(asked: Asked, s: &[u8]) -> bool
+fn has_clause(asked: ScopeList, s: &[u8]) -> bool
     ensures { λ r. ⌜ r ≡ someClause asked (records 0 (now (s .entry))) ⌝ }
 {
     match asked {
-        Asked::WithNames => has_kind(s, WITH_CLAUSE, WITH_CLAUSE),
-        Asked::TableAliases => has_kind(s, FROM_CLAUSE, JOIN_CLAUSE),
-        Asked::ColumnAliases => has_kind(s, SELECT_CLAUSE, SELECT_CLAUSE),
-        Asked::TableRefs => has_kind(s, FROM_CLAUSE, JOIN_CLAUSE),
+        ScopeList::WithNames => has_kind(s, WITH_CLAUSE, WITH_CLAUSE),
+        ScopeList::TableAliases => has_kind(s, FROM_CLAUSE, JOIN_CLAUSE),
+        ScopeList::ColumnAliases => has_kind(s, SELECT_CLAUSE, SELECT_CLAUSE),
+        ScopeList::TableRefs => has_kind(s, FROM_CLAUSE, JOIN_CLAUSE),
     }
 }
 
 // Is there something to collect in a child's stretch? Subqueries are left unvisited.
-pub fn hands_on(asked: Asked, s: &[u8]) -> bool
+pub fn hands_on(asked: ScopeList, s: &[u8]) -> bool
     requires { ⌜ 0 < count (now s) ⌝ }
     ensures { λ r. ⌜ r ≡ (not (eqb (kindAt (now (s .entry)) 0) subqueryExpression) && someClause asked (records 0 (now (s .entry)))) ⌝ }
 {

@@ -19,8 +19,8 @@ use Rattle.lent.proofs.Writes.{written-none}
 use Rattle.forest.specs.Forest.{Forest, token, node, level, kids, stretchEnd}
 use Rattle.forest.proofs.Writing.{writing, writing-turn}
 use Rattle.forest.proofs.Laws.{level-shallow, level-deep, level-token, level-node, node-or-token, from-cons, head-part}
-use Rattle.clauses.specs.declared.clauses.Asked.{Asked}
-use Rattle.clauses.specs.declared.clauses.Asked.the-variants.{WithNames, TableAliases, ColumnAliases, TableRefs}
+use Rattle.clauses.specs.declared.clauses.ScopeList.{ScopeList}
+use Rattle.clauses.specs.declared.clauses.ScopeList.the-variants.{WithNames, TableAliases, ColumnAliases, TableRefs}
 use Rattle.collection.specs.Collection.{nodeGives, collected}
 use Rattle.collection.specs.inner.Rows.{ownRows}
 use Rattle.clauses.specs.inner.Clauses.{inKinds, someKind, someClause}
@@ -56,7 +56,7 @@ no-table k e =
     )
 
 module _ (src : List ℕ) where
-  own-none : (asked : Asked) (r : Rec) (rs : List Rec) (f : Forest) → someClause asked (r ∷ rs) ≡ false → (ownRows asked src (r .kind) f ≡ []) × (someClause asked rs ≡ false)
+  own-none : (asked : ScopeList) (r : Rec) (rs : List Rec) (f : Forest) → someClause asked (r ∷ rs) ≡ false → (ownRows asked src (r .kind) f ≡ []) × (someClause asked rs ≡ false)
   unfolding someClause someKind
   own-none WithNames r rs f e = let n = neither _ _ e in (with-no src (r .kind) f (outside withClause withClause (r .kind) (n .0) withClause (omega arith) (omega arith)), n .1)
   own-none ColumnAliases r rs f e =
@@ -64,7 +64,7 @@ module _ (src : List ℕ) where
   own-none TableAliases r rs f e = let n = neither _ _ e in (aliases-are src (r .kind) f ∙ tables-no src (r .kind) f _ (no-table (r .kind) (n .0)), n .1)
   own-none TableRefs r rs f e = let n = neither _ _ e in (references-are src (r .kind) f ∙ tables-no src (r .kind) f _ (no-table (r .kind) (n .0)), n .1)
 
-  module _ (asked : Asked) where
+  module _ (asked : ScopeList) where
     -- a node that has nothing of its own and nothing below gives nothing
     gives-none : (k : ℕ) (below : Forest) → ownRows asked src k below ≡ [] → collected (ownRows asked src) below ≡ []
         → cond (eqb k subqueryExpression) [] (nodeGives (ownRows asked src) k below (collected (ownRows asked src) below)) ≡ []
@@ -99,14 +99,14 @@ module _ (src : List ℕ) where
 -- ---- a child's stretch
 
 -- the records' numbers have no part in it
-clause-run : (asked : Asked) (t : List ℕ) (b c i n : ℕ) → someClause asked (run t b i n) ≡ someClause asked (run t c i n)
+clause-run : (asked : ScopeList) (t : List ℕ) (b c i n : ℕ) → someClause asked (run t b i n) ≡ someClause asked (run t c i n)
 unfolding someClause
 clause-run WithNames t b c i n = kind-run withClause withClause t b c i n
 clause-run TableAliases t b c i n = kind-run fromClause joinClause t b c i n
 clause-run ColumnAliases t b c i n = kind-run selectClause selectClause t b c i n
 clause-run TableRefs t b c i n = kind-run fromClause joinClause t b c i n
 
-module _ (asked : Asked) (s : List ℕ) (base i : ℕ) (h : i < count s) {p : List ℕ} (q : p ≡ part s i (stretchEnd s i)) (some : 0 < count p) {x : Bool}
+module _ (asked : ScopeList) (s : List ℕ) (base i : ℕ) (h : i < count s) {p : List ℕ} (q : p ≡ part s i (stretchEnd s i)) (some : 0 < count p) {x : Bool}
     (e : x ≡ (not (eqb (kindAt p 0) subqueryExpression) && someClause asked (records 0 p))) where
   same-head : kindAt p 0 ≡ kindAt s i
   same-head = sym (kind-of p (base + i) 0) ∙ ap (λ (r : Rec). r .kind) (head-part s base i h q) ∙ kind-of s base i

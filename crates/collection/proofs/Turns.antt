@@ -13,7 +13,7 @@ use Rattle.forest.specs.Forest.{Forest, nil, node, kids, stretchEnd}
 use Rattle.forest.proofs.Laws.{head-part}
 use Rattle.references.specs.declared.pending.Pending.the-variants.{Nothing}
 use Rattle.tables.specs.declared.tables.Reads.the-variants.{Aliases, References}
-use Rattle.clauses.specs.declared.clauses.Asked.the-variants.{WithNames, TableAliases, ColumnAliases, TableRefs}
+use Rattle.clauses.specs.declared.clauses.ScopeList.the-variants.{WithNames, TableAliases, ColumnAliases, TableRefs}
 use Rattle.names.specs.Bindings.{withItems, selectAliases, bindingRow}
 use Rattle.collection.specs.Collection.{nodeGives, collected, collection, ownWith, ownColumns, ownTables, collectionOf}
 use Rattle.tables.specs.Tables.{Listing, tableReading}

@@ -1,7 +1,7 @@
 // Collection: a node's own part, and then each child's.
 use binders::binders::collect_column_aliases;
 use binders::binders::collect_ctes;
-use clauses::clauses::Asked;
+use clauses::clauses::ScopeList;
 use clauses::clauses::hands_on;
 use forest::nodes::node_from;
 use forest::stretch::stretch_of;
@@ -45,7 +45,14 @@ fn own_tables(
 }
 
 // The own part of a node, the first record of the stretch s, in the list that is asked for.
-fn own_part(asked: Asked, s: &[u8], base: usize, source: &[u8], out: &mut [u8], at: usize) -> usize
+fn own_part(
+    asked: ScopeList,
+    s: &[u8],
+    base: usize,
+    source: &[u8],
+    out: &mut [u8],
+    at: usize,
+) -> usize
     requires { ⌜ (0 < count (now s)) × (base + count (now s) ≤ mostRecords) × (at + readBytes * count (now s) < farthest) ⌝ }
     ensures { λ r. ⌜ Written asRow (ownRows asked (now (source .entry)) (kindAt (now (s .entry)) 0) (kids (records base (now (s .entry)))))
         (now (out .entry)) at (now (out .exit)) r
@@ -53,29 +60,29 @@ fn own_part(asked: Asked, s: &[u8], base: usize, source: &[u8], out: &mut [u8], 
 {
     let kind = kind_at(s, 0);
     match asked {
-        Asked::WithNames => {
+        ScopeList::WithNames => {
             if kind == WITH_CLAUSE {
                 collect_ctes(s, base, source, out, at)
             } else {
                 at
             }
         }
-        Asked::ColumnAliases => {
+        ScopeList::ColumnAliases => {
             if kind == SELECT_CLAUSE {
                 collect_column_aliases(s, base, source, out, at)
             } else {
                 at
             }
         }
-        Asked::TableAliases => own_tables(Reads::Aliases, s, base, source, out, at),
-        Asked::TableRefs => own_tables(Reads::References, s, base, source, out, at),
+        ScopeList::TableAliases => own_tables(Reads::Aliases, s, base, source, out, at),
+        ScopeList::TableRefs => own_tables(Reads::References, s, base, source, out, at),
     }
 }
 
 // The collection of the node at the head of the stretch s, whose number is base; a child in which there is nothing to collect is passed over.
 // Writes the list that is asked for into out from byte `at` on, and returns where the next entry goes.
 pub fn collect_scope(
-    asked: Asked,
+    asked: ScopeList,
     s: &[u8],
     base: usize,
     source: &[u8],

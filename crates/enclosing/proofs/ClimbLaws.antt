@@ -19,7 +19,7 @@ use Rattle.lent.proofs.Writes.{written-none, written-then, written-rows, length
 use Rattle.names.specs.declared.names.NameBinding.{NameBinding}
 use Rattle.names.specs.Bindings.{bindingRow, bindingBytes}
 use Rattle.tables.specs.inner.Rows.{asRow}
-use Rattle.clauses.specs.declared.clauses.Asked.the-variants.{WithNames}
+use Rattle.clauses.specs.declared.clauses.ScopeList.the-variants.{WithNames}
 use Rattle.collection.specs.Collection.{collectionOf}
 use Rattle.lists.specs.Scope.{withNames}
 use Rattle.collection.specs.inner.Rows.{ownRows}

@@ -1,5 +1,5 @@
 // The roots around a root, and the WITH names that are offered at it: its own, then those that it sees of each enclosing root (document 02, §4).
-use clauses::clauses::Asked;
+use clauses::clauses::ScopeList;
 use collection::collection::collect_scope;
 use forest::stretch::stretch_of;
 use lent::list::KEPT_BYTES;
@@ -81,7 +81,7 @@ fn collect_offered(table: &[u8], n: usize, source: &[u8], out: &mut [u8], at: us
         × (r ≤ at + ownListBytes + aroundBytes) ⌝ }
 {
     let s = stretch_of(table, n);
-    let next = collect_scope(Asked::WithNames, s, n, source, out, at);
+    let next = collect_scope(ScopeList::WithNames, s, n, source, out, at);
     if kind_at(table, n) != SUBQUERY_EXPRESSION {
         return next;
     }

@@ -12,7 +12,7 @@ use Rattle.lent.specs.declared.list.Listed.{Listed}
 use Rattle.lent.specs.Lists.{listBytes, reply, listed}
 use Rattle.names.specs.Bindings.{bindingRow}
 use Rattle.references.specs.References.{referenceRow}
-use Rattle.clauses.specs.declared.clauses.Asked.the-variants.{TableAliases, ColumnAliases, TableRefs}
+use Rattle.clauses.specs.declared.clauses.ScopeList.the-variants.{TableAliases, ColumnAliases, TableRefs}
 use Rattle.lists.specs.Scope.{tableAliases, columnAliases, tableRefs}
 use Rattle.lists.specs.inner.Rows.{rowsAt}
 use Rattle.lists.proofs.ListLaws.{alias-rows, column-rows, reference-rows}

@@ -1,5 +1,5 @@
 // The four lists of a root at once, each in a buffer of its own: how many entries they have, and their bytes.
-use clauses::clauses::Asked;
+use clauses::clauses::ScopeList;
 use enclosing::enclosing::list_offered;
 use lent::list::Listed;
 use lists::lists::list_in;
@@ -30,7 +30,7 @@ fn entries_in(l: Listed) -> u32
 }
 
 // How many entries one list of the root has: asked for in a buffer of no bytes.
-fn count_in(asked: Asked, table: &[u8], source: &[u8], root: usize) -> u32
+fn count_in(asked: ScopeList, table: &[u8], source: &[u8], root: usize) -> u32
     requires { ⌜ (root < count (now table)) × (count (now table) ≤ mostRecords) ⌝ }
     ensures { λ r. ⌜ r ≡ length (rowsAt asked (now (source .entry)) (now (table .entry)) root) ⌝ }
 {
@@ -54,9 +54,9 @@ pub fn counts_in(table: &[u8], source: &[u8], root: usize) -> Counts
 {
     Counts {
         names: count_offered(table, source, root),
-        aliases: count_in(Asked::TableAliases, table, source, root),
-        columns: count_in(Asked::ColumnAliases, table, source, root),
-        refs: count_in(Asked::TableRefs, table, source, root),
+        aliases: count_in(ScopeList::TableAliases, table, source, root),
+        columns: count_in(ScopeList::ColumnAliases, table, source, root),
+        refs: count_in(ScopeList::TableRefs, table, source, root),
     }
 }
 
@@ -77,7 +77,7 @@ pub fn put_lists(
         × (now (refs .exit) ≡ lent [] referenceRow (tableRefs (now (source .entry)) (now (table .entry)) root) (now (refs .entry))) ⌝ }
 {
     list_offered(table, root, source, names);
-    list_in(Asked::TableAliases, table, source, root, aliases);
-    list_in(Asked::ColumnAliases, table, source, root, columns);
-    list_in(Asked::TableRefs, table, source, root, refs);
+    list_in(ScopeList::TableAliases, table, source, root, aliases);
+    list_in(ScopeList::ColumnAliases, table, source, root, columns);
+    list_in(ScopeList::TableRefs, table, source, root, refs);
 }

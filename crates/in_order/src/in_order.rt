@@ -52,6 +52,18 @@ struct Expected {
     last: usize,
 }
 
+// The record before fits.
+fn expect(limit: usize, parent: u32, last: usize) -> Expected
+    ensures { λ r. ⌜ r ≡ record { fits = true; limit = limit; parent = parent; last = last } ⌝ }
+{
+    Expected {
+        fits: true,
+        limit,
+        parent,
+        last,
+    }
+}
+
 // The record before does not fit.
 fn unexpected() -> Expected
     ensures { λ r. ⌜ r .fits ≡ false ⌝ }
@@ -89,31 +101,16 @@ fn follow(table: &[u8], i: usize, e: Expected, nodes: &mut [u32]) -> Expected
         if !span_fits(start_at(table, i), end, e.last) {
             return unexpected();
         }
-        return Expected {
-            fits: true,
-            limit: depth,
-            parent,
-            last: end,
-        };
+        return expect(depth, parent, end);
     }
     if LAST_NODE < kind {
         return unexpected();
     }
     if MOST_DEPTH <= depth {
-        return Expected {
-            fits: true,
-            limit: depth,
-            parent,
-            last: e.last,
-        };
+        return expect(depth, parent, e.last);
     }
     nodes[depth + 1] = i as u32;
-    Expected {
-        fits: true,
-        limit: depth + 1,
-        parent: i as u32,
-        last: e.last,
-    }
+    expect(depth + 1, i as u32, e.last)
 }
 
 // Is every record in order, for a source of n bytes? It says only that, and says it fast, two records at a turn: where it is so, nothing more need be looked
@@ -127,12 +124,7 @@ pub fn all_in_order(table: &[u8], n: usize) -> bool
         return false;
     }
     let mut nodes = [0u32; DEPTHS];
-    let mut e = Expected {
-        fits: true,
-        limit: 1,
-        parent: 0,
-        last: 0,
-    };
+    let mut e = expect(1, 0, 0);
     let before_last = m - 1;
     let mut i = 1;
     while i < before_last {

@@ -25,8 +25,8 @@ use Rattle.names.specs.declared.names.Bound.{Bound}
 use Rattle.names.specs.declared.names.Bound.the-variants.{Unnamed, Named}
 use Rattle.references.specs.declared.pending.Pending.{Pending}
 use Rattle.references.specs.declared.pending.Pending.the-variants.{Nothing, Held}
-use Rattle.clauses.specs.declared.clauses.Asked.{Asked}
-use Rattle.clauses.specs.declared.clauses.Asked.the-variants.{WithNames, TableAliases, ColumnAliases, TableRefs}
+use Rattle.clauses.specs.declared.clauses.ScopeList.{ScopeList}
+use Rattle.clauses.specs.declared.clauses.ScopeList.the-variants.{WithNames, TableAliases, ColumnAliases, TableRefs}
 use Rattle.names.specs.Names.{isPart, direct, aliasIn}
 use Rattle.collection.specs.Collection.{nodeGives, collected, collection, ownWith, ownColumns, ownTables, collectionOf}
 use Rattle.references.specs.References.{fresh, referenceRow}
@@ -131,14 +131,14 @@ wide-rows : {E : Type 0} (row : E → List ℕ) (w : ℕ) → ((e : E) → numbe
     → length (listBytes asRow rs) ≡ length rs * w
 wide-rows row w h es q = rw (q, bytes-map row es, length-map es row) (length-wide row w h es)
 
-wide-at : (asked : Asked) (src t : List ℕ) (i : ℕ) → length (listBytes asRow (rowsAt asked src t i)) ≡ length (rowsAt asked src t i) * width asked
+wide-at : (asked : ScopeList) (src t : List ℕ) (i : ℕ) → length (listBytes asRow (rowsAt asked src t i)) ≡ length (rowsAt asked src t i) * width asked
 unfolding width
 wide-at WithNames src t i = wide-rows bindingRow 24 (λ e. refl) (withNames src t i) (with-rows src t i)
 wide-at TableAliases src t i = wide-rows bindingRow 24 (λ e. refl) (tableAliases src t i) (alias-rows src t i)
 wide-at ColumnAliases src t i = wide-rows bindingRow 24 (λ e. refl) (columnAliases src t i) (column-rows src t i)
 wide-at TableRefs src t i = wide-rows referenceRow 52 (λ e. refl) (tableRefs src t i) (reference-rows src t i)
 
-wide-some : (asked : Asked) → 0 < width asked
+wide-some : (asked : ScopeList) → 0 < width asked
 unfolding width
 wide-some WithNames = omega arith
 wide-some TableAliases = omega arith
@@ -159,7 +159,7 @@ module _ (t : List ℕ) (n i : ℕ) {v : Verdict} (e : v ≡ rootVerdict t n i) 
   pub root-some : v ≡ Admitted → (count t ≤ mostRecords) × (i < count t)
   root-some q = root-known t n i (sym q ∙ e)
 
-module _ (asked : Asked) (src t : List ℕ) (i : ℕ) (rs : List Rule) (out : List ℕ) {s kept kept′ : List ℕ} {m n : ℕ} (q : s ≡ part t i (stretchEnd t i)) (ok : Admitted ≡ first rs)
+module _ (asked : ScopeList) (src t : List ℕ) (i : ℕ) (rs : List Rule) (out : List ℕ) {s kept kept′ : List ℕ} {m n : ℕ} (q : s ≡ part t i (stretchEnd t i)) (ok : Admitted ≡ first rs)
     (c : Written asRow (collectionOf (ownRows asked src) i s) kept 0 kept′ m) (d : n ≡ m / width asked) where
   pub rows-copied : {out′ : List ℕ} → m ≤ length kept → m ≤ length out → out′ ≡ take m kept′ ++ drop m out → Answers rs asRow (rowsAt asked src t i) out (Entries n) out′
   rows-copied h g e = rw d (sized-copied asRow (width asked) (rowsAt asked src t i) (wide-at asked src t i) (wide-some asked) rs out ok (rw q at c) h g e)

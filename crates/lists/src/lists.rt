@@ -1,5 +1,5 @@
 // One list of a root, whichever is asked for: its rows, how many they are, and the bytes that they take.
-use clauses::clauses::Asked;
+use clauses::clauses::ScopeList;
 use collection::collection::collect_scope;
 use forest::stretch::stretch_of;
 use lent::list::KEPT_BYTES;
@@ -22,20 +22,20 @@ ghost use Rattle.tables.specs.inner.Rows.{asRow};
 ghost use Rattle.lists.specs.inner.Rows.{rowsAt, width};
 
 // How many entries of a list have this many bytes.
-fn entries_of(asked: Asked, size: usize) -> usize
+fn entries_of(asked: ScopeList, size: usize) -> usize
     ensures { λ r. ⌜ (r ≡ size / width asked) × (r ≤ size) ⌝ }
 {
     match asked {
-        Asked::WithNames => size / BINDING_BYTES,
-        Asked::TableAliases => size / BINDING_BYTES,
-        Asked::ColumnAliases => size / BINDING_BYTES,
-        Asked::TableRefs => size / REFERENCE_BYTES,
+        ScopeList::WithNames => size / BINDING_BYTES,
+        ScopeList::TableAliases => size / BINDING_BYTES,
+        ScopeList::ColumnAliases => size / BINDING_BYTES,
+        ScopeList::TableRefs => size / REFERENCE_BYTES,
     }
 }
 
 // One list of a root of a table that is admitted: walked into bytes that are kept aside, and copied from there where they held all of it; a longer list is
 // walked again where it has room.
-pub fn list_in(asked: Asked, table: &[u8], source: &[u8], root: usize, out: &mut [u8]) -> Listed
+pub fn list_in(asked: ScopeList, table: &[u8], source: &[u8], root: usize, out: &mut [u8]) -> Listed
     requires { ⌜ (root < count (now table)) × (count (now table) ≤ mostRecords) ⌝ }
     ensures { λ r. ⌜ Answers [] asRow
         (rowsAt asked (now (source .entry)) (now (table .entry)) root) (now (out .entry)) r (now (out .exit)) ⌝ }
@@ -56,7 +56,7 @@ pub fn list_in(asked: Asked, table: &[u8], source: &[u8], root: usize, out: &mut
 }
 
 // One list of a named root: the check, and then the list.
-pub fn list_of(asked: Asked, table: &[u8], source: &[u8], root: usize, out: &mut [u8]) -> Listed
+pub fn list_of(asked: ScopeList, table: &[u8], source: &[u8], root: usize, out: &mut [u8]) -> Listed
     ensures { λ r. ⌜ Answers (rootRules (now (table .entry)) (length (now (source .entry))) root) asRow
         (rowsAt asked (now (source .entry)) (now (table .entry)) root) (now (out .entry)) r (now (out .exit)) ⌝ }
 {

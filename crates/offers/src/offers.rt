@@ -1,5 +1,5 @@
 // The scope at the cursor: the aliases, columns and references of its root. The WITH names stand in with_names.
-use clauses::clauses::Asked;
+use clauses::clauses::ScopeList;
 use cursor_root::root::root_at;
 use lent::list::Listed;
 use lent::verdict::Verdict;
@@ -16,7 +16,7 @@ ghost use Rattle.lists.specs.inner.Rows.{rowsAt};
 ghost use Rattle.cursor_root.specs.Root.{rootAt};
 
 // One list at the offset: that of the cursor's root. The table is checked once.
-fn offer(asked: Asked, table: &[u8], source: &[u8], offset: usize, out: &mut [u8]) -> Listed
+fn offer(asked: ScopeList, table: &[u8], source: &[u8], offset: usize, out: &mut [u8]) -> Listed
     ensures { λ r. ⌜ Answers (rules (now (table .entry)) (length (now (source .entry))) 0) asRow
         (rowsAt asked (now (source .entry)) (now (table .entry)) (rootAt (now (table .entry)) offset)) (now (out .entry)) r (now (out .exit)) ⌝ }
 {
@@ -34,7 +34,7 @@ pub fn table_aliases_at(table: &[u8], source: &[u8], offset: usize, out: &mut [u
     ensures { λ r. ⌜ Answers (rules (now (table .entry)) (length (now (source .entry))) 0) bindingRow
         (tableAliases (now (source .entry)) (now (table .entry)) (rootAt (now (table .entry)) offset)) (now (out .entry)) r (now (out .exit)) ⌝ }
 {
-    offer(Asked::TableAliases, table, source, offset, out)
+    offer(ScopeList::TableAliases, table, source, offset, out)
 }
 
 // The column aliases that are offered at the offset: those of the cursor's root alone.
@@ -42,7 +42,7 @@ pub fn column_aliases_at(table: &[u8], source: &[u8], offset: usize, out: &mut [
     ensures { λ r. ⌜ Answers (rules (now (table .entry)) (length (now (source .entry))) 0) bindingRow
         (columnAliases (now (source .entry)) (now (table .entry)) (rootAt (now (table .entry)) offset)) (now (out .entry)) r (now (out .exit)) ⌝ }
 {
-    offer(Asked::ColumnAliases, table, source, offset, out)
+    offer(ScopeList::ColumnAliases, table, source, offset, out)
 }
 
 // The table references that are offered at the offset: those of the cursor's root alone.
@@ -50,5 +50,5 @@ pub fn table_refs_at(table: &[u8], source: &[u8], offset: usize, out: &mut [u8])
     ensures { λ r. ⌜ Answers (rules (now (table .entry)) (length (now (source .entry))) 0) referenceRow
         (tableRefs (now (source .entry)) (now (table .entry)) (rootAt (now (table .entry)) offset)) (now (out .entry)) r (now (out .exit)) ⌝ }
 {
-    offer(Asked::TableRefs, table, source, offset, out)
+    offer(ScopeList::TableRefs, table, source, offset, out)
 }

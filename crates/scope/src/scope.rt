@@ -1,5 +1,5 @@
 // The four lists of a root: its WITH names, table aliases, column aliases and table references.
-use clauses::clauses::Asked;
+use clauses::clauses::ScopeList;
 use lent::list::Listed;
 use lists::lists::list_of;
 ghost use lib.ListN.{length};
@@ -14,7 +14,7 @@ pub fn with_names(table: &[u8], source: &[u8], root: usize, out: &mut [u8]) -> L
     ensures { λ r. ⌜ Answers (rootRules (now (table .entry)) (length (now (source .entry))) root) bindingRow
         (withNames (now (source .entry)) (now (table .entry)) root) (now (out .entry)) r (now (out .exit)) ⌝ }
 {
-    list_of(Asked::WithNames, table, source, root, out)
+    list_of(ScopeList::WithNames, table, source, root, out)
 }
 
 // The table aliases of a root.
@@ -22,7 +22,7 @@ pub fn table_aliases(table: &[u8], source: &[u8], root: usize, out: &mut [u8]) -
     ensures { λ r. ⌜ Answers (rootRules (now (table .entry)) (length (now (source .entry))) root) bindingRow
         (tableAliases (now (source .entry)) (now (table .entry)) root) (now (out .entry)) r (now (out .exit)) ⌝ }
 {
-    list_of(Asked::TableAliases, table, source, root, out)
+    list_of(ScopeList::TableAliases, table, source, root, out)
 }
 
 // The column aliases of a root.
@@ -30,7 +30,7 @@ pub fn column_aliases(table: &[u8], source: &[u8], root: usize, out: &mut [u8]) 
     ensures { λ r. ⌜ Answers (rootRules (now (table .entry)) (length (now (source .entry))) root) bindingRow
         (columnAliases (now (source .entry)) (now (table .entry)) root) (now (out .entry)) r (now (out .exit)) ⌝ }
 {
-    list_of(Asked::ColumnAliases, table, source, root, out)
+    list_of(ScopeList::ColumnAliases, table, source, root, out)
 }
 
 // The table references of a root.
@@ -38,5 +38,5 @@ pub fn table_refs(table: &[u8], source: &[u8], root: usize, out: &mut [u8]) -> L
     ensures { λ r. ⌜ Answers (rootRules (now (table .entry)) (length (now (source .entry))) root) referenceRow
         (tableRefs (now (source .entry)) (now (table .entry)) root) (now (out .entry)) r (now (out .exit)) ⌝ }
 {
-    list_of(Asked::TableRefs, table, source, root, out)
+    list_of(ScopeList::TableRefs, table, source, root, out)
 }

@@ -6,8 +6,8 @@ use mathlib.Core.List.{List, [], _∷_}
 use lib.Dec.{leb}
 use Rattle.records.specs.declared.record.Rec.{Rec}
 use Rattle.records.specs.Kinds.{withClause, selectClause, fromClause, joinClause}
-use Rattle.clauses.specs.declared.clauses.Asked.{Asked}
-use Rattle.clauses.specs.declared.clauses.Asked.the-variants.{WithNames, TableAliases, ColumnAliases, TableRefs}
+use Rattle.clauses.specs.declared.clauses.ScopeList.{ScopeList}
+use Rattle.clauses.specs.declared.clauses.ScopeList.the-variants.{WithNames, TableAliases, ColumnAliases, TableRefs}
 
 -- k is one of the kinds from the first to the last
 abbrev pub inKinds : ℕ → ℕ → ℕ → Bool
@@ -19,7 +19,7 @@ someKind first last [] = false
 someKind first last (r ∷ rs) = inKinds first last (r .kind) || someKind first last rs
 
 -- some record is a clause that the list is read from
-unfoldable pub someClause : Asked → List Rec → Bool
+unfoldable pub someClause : ScopeList → List Rec → Bool
 someClause WithNames rs = someKind withClause withClause rs
 someClause TableAliases rs = someKind fromClause joinClause rs
 someClause ColumnAliases rs = someKind selectClause selectClause rs

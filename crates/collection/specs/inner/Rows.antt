@@ -4,15 +4,15 @@ use Prim.Native.Nat.{ℕ, _*_}
 use mathlib.Core.List.{List, map}
 use Rattle.forest.specs.Forest.{Forest}
 use Rattle.conditions.specs.Conditions.{mostRecords}
-use Rattle.clauses.specs.declared.clauses.Asked.{Asked}
-use Rattle.clauses.specs.declared.clauses.Asked.the-variants.{WithNames, TableAliases, ColumnAliases, TableRefs}
+use Rattle.clauses.specs.declared.clauses.ScopeList.{ScopeList}
+use Rattle.clauses.specs.declared.clauses.ScopeList.the-variants.{WithNames, TableAliases, ColumnAliases, TableRefs}
 use Rattle.tables.specs.declared.tables.Reads.the-variants.{Aliases, References}
 use Rattle.collection.specs.Collection.{ownWith, ownColumns, ownTables}
 use Rattle.names.specs.Bindings.{bindingRow}
 use Rattle.tables.specs.inner.Rows.{rowsOf, readBytes}
 
 -- a node's own part
-unfoldable pub ownRows : Asked → List ℕ → ℕ → Forest → List (List ℕ)
+unfoldable pub ownRows : ScopeList → List ℕ → ℕ → Forest → List (List ℕ)
 ownRows WithNames src k below = map bindingRow (ownWith src k below)
 ownRows TableAliases src k below = ownTables (rowsOf Aliases) src k below
 ownRows ColumnAliases src k below = map bindingRow (ownColumns src k below)

@@ -21,8 +21,9 @@ all-in-order-spec =
     μ-loop
     (λ c κs. omega arith)  -- first-fits-requires
     (λ c e. never e)  -- returns
+    (λ c κs. omega arith)  -- expect-requires
     (λ c. omega arith)  -- sub-before-last
-    (λ c. (omega arith, order-start _ (sym (c .before .first-fits .ensures) ∙ not-false _ (c .if1 .left))))  -- loop-holds
+    (λ c. (omega arith, rw (c .expect .ensures) (order-start _ (sym (c .before .before .first-fits .ensures) ∙ not-false _ (c .before .if1 .left)))))  -- loop-holds
     (λ c. sym (c .before .before .loop .inv .1 .wide))  -- slice-aggregate-follow
     (λ c κs. (omega arith, c .before .before .loop .inv .1))  -- follow-requires
     (λ c e. never e)  -- returns-2
