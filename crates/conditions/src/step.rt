@@ -27,14 +27,14 @@ pub struct Known {
 }
 
 // Refusal 3: the kind is not listed.
-pub fn strange(kind: usize) -> bool
+fn strange(kind: usize) -> bool
     ensures { λ r. ⌜ r ≡ strange kind ⌝ }
 {
     !(is_node(kind) | is_token(kind))
 }
 
 // Refusal 4: the record cannot stand here.
-pub fn out_of_place(b: Known, r: Rec) -> bool
+fn out_of_place(b: Known, r: Rec) -> bool
     ensures { λ x. ⌜ x ≡ outOfPlace b r ⌝ }
 {
     if r.index == 0 {

@@ -36,7 +36,7 @@ pub fn enters(sought: Sought, offset: usize, kind: usize, start: usize, end: usi
 }
 
 // What a token of this kind makes of the index.
-pub fn argue(a: Arguments, kind: usize) -> Arguments
+fn argue(a: Arguments, kind: usize) -> Arguments
     requires { ⌜ a .index < 1152921504606846976 ⌝ }
     ensures { λ r. ⌜ (r ≡ argued a kind) × (r .index ≤ a .index + 1) ⌝ }
 {
