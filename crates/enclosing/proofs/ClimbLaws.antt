@@ -2,22 +2,20 @@
 --     Climbing, climb-start, -query, -other, -none, -last    the roots around
 --     own-written, offered-alone, offered-around                    with the root's own before them
 -- Assumes nothing.
-use Prim.Native.Nat.{ℕ, _+_, _-_, _*_, _/_, _≤_, _<_}
+use Prim.Native.Nat.{ℕ, _+_, _-_, _≤_, _<_}
 use mathlib.Core.Path.{_≡_, refl, ap, _∙_}
 use mathlib.Core.Bool.{Bool, true, false, cond}
 use mathlib.Core.List.{List, [], _∷_, _++_, append-assoc, append-nil}
 use native.Mathlib.Omega.{arith}
 use borrow.Author.Tests.{lt-ltb, le-ltb, ltb-false, eq-eqb, ne-eqb}
 use lib.Dec.{ltb}
-use lib.ListN.{length, take, drop}
 use Rattle.records.specs.Kinds.{subqueryExpression}
 use Rattle.records.specs.Table.{count, kindAt, parentAt, part}
 use Rattle.forest.specs.Forest.{stretchEnd}
-use Rattle.lent.specs.declared.list.Listed.the-variants.{Entries, Refused as Denied}
-use Rattle.lent.specs.Lists.{listBytes, Written, Answers}
-use Rattle.lent.proofs.Writes.{written-none, written-then, written-rows, length-wide, sized-copied, sized-filled, sized-short}
+use Rattle.lent.specs.Lists.{Written}
+use Rattle.lent.proofs.Writes.{written-none, written-then, written-rows}
 use Rattle.names.specs.declared.names.NameBinding.{NameBinding}
-use Rattle.names.specs.Bindings.{bindingRow, bindingBytes}
+use Rattle.names.specs.Bindings.{bindingRow}
 use Rattle.tables.specs.inner.Rows.{asRow}
 use Rattle.clauses.specs.declared.clauses.ScopeList.the-variants.{WithNames}
 use Rattle.collection.specs.Collection.{collectionOf}

@@ -9,15 +9,14 @@ use mathlib.Core.List.{List}
 use native.Mathlib.Numerals.{add-one}
 use native.Mathlib.Nat.{zero-add}
 use native.Mathlib.Omega.{arith}
-use borrow.Author.Tests.{le-ltb, le-leb, lt-leb, eq-eqb, ne-eqb, ltb-true, ltb-false, leb-true, eqb-true}
+use borrow.Author.Tests.{le-ltb, le-leb, lt-leb, eq-eqb, ne-eqb, ltb-false, leb-true, eqb-true}
 use lib.Dec.{eqb, ltb, leb}
-use lib.ListN.{length, getD, set, replicate, length-set}
+use lib.ListN.{getD, set, replicate, length-set}
 use lib.Seq.{getD-set-same, getD-set-other}
 use Rattle.lent.specs.declared.verdict.Verdict.the-variants.{Admitted}
 use Rattle.records.specs.Kinds.{isNode, isToken, lastNode, otherToken}
-use Rattle.lent.specs.Numbers.{wordLimit}
 use Rattle.records.specs.Table.{count, kindAt, depthAt, startAt, endAt, parentAt, recordAt}
-use Rattle.conditions.specs.Conditions.{mostDepth, unlisted, misplaced, tooDeep, nearest, parentOf, wrongParent, badSpan, lastEnd}
+use Rattle.conditions.specs.Conditions.{mostDepth, misplaced, tooDeep, nearest, parentOf, wrongParent, badSpan, lastEnd}
 use Rattle.refusals.specs.ByRecord.{rulesFrom}
 use Rattle.lent.specs.Verdicts.{first}
 use Rattle.conditions.specs.inner.Step.{depths, deepestNext, knownAt, outOfPlace}

@@ -2,12 +2,10 @@
 --     waiting-..     what each case of it is
 --     alias-set      after an alias it is the reference that the alias makes of it
 -- Assumes nothing.
-use Prim.Native.Nat.{ℕ, _+_, _<_}
-use mathlib.Core.Path.{_≡_, refl, sym, ap, _∙_}
+use Prim.Native.Nat.{ℕ, _+_}
+use mathlib.Core.Path.{_≡_, refl}
 use mathlib.Core.Bool.{Bool, true, false, cond}
-use mathlib.Core.Logic.{⊎-elim}
 use mathlib.Core.List.{List}
-use native.Mathlib.Omega.{arith}
 use borrow.Author.Tests.{eq-eqb, ne-eqb}
 use lib.Dec.{eqb}
 use Rattle.records.specs.Table.{recordAt, records, part}

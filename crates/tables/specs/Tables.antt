@@ -5,7 +5,6 @@ use Prim.Native.Nat.{ℕ}
 use mathlib.Core.Bool.{cond}
 use mathlib.Core.List.{List, [], _∷_, _++_}
 use lib.Dec.{eqb}
-use Rattle.records.specs.declared.record.Rec.{Rec}
 use Rattle.records.specs.Kinds.{joinClause, tableIdentifier, tableExpression, tableAlias}
 use Rattle.forest.specs.Forest.{Forest, nil, token, node}
 use Rattle.names.specs.declared.names.NameBinding.{NameBinding}

@@ -3,7 +3,6 @@ use Rattle.tables.proofs.WaitingLaws.{bound-at}
 use Rattle.lent.proofs.Writes.{written-none, written-map}
 use Rattle.names.specs.Bindings.{bindingRow}
 use Rattle.tables.specs.inner.Rows.{asRow}
-use mathlib.Core.Path.{_∙_}
 use native.Mathlib.Omega.{arith}
 use borrow.Author.Needs.{needs}
 use Rattle.tables.proofs.tables.put_alias.Statement.{statement}
