@@ -5,8 +5,8 @@ use crate::rust::{tree_by, without_lone_quotes, Asked};
 use std::cell::RefCell;
 use std::hint::black_box;
 
-const RECORDS: [usize; 3] = [64, 1024, 4096];
-const DEPTHS: [u32; 3] = [4, 10, 63];
+/// How many records and how deep. The first is flat; the last of 64 records is a chain of nodes.
+const PAGES: [(usize, u32); 10] = [(64, 1), (64, 4), (1024, 4), (4096, 4), (64, 10), (1024, 10), (4096, 10), (64, 63), (1024, 63), (4096, 63)];
 const REPEATS: usize = 10;
 const MESSAGE: &str = "expected )";
 
@@ -155,10 +155,8 @@ fn measure_words() {
 }
 
 pub fn measure() {
-    for depth in DEPTHS {
-        for records in RECORDS {
-            measure_page(records, depth);
-        }
+    for (records, depth) in PAGES {
+        measure_page(records, depth);
     }
     measure_words();
 }

@@ -5,6 +5,7 @@ use path::gathered::Gathered;
 use path::gathered::NOTHING;
 use path::gathered::enter;
 use path::gathered::settle;
+use path::plain::run_down;
 use path::rules::rule_by_kind;
 use records::range::is_holder;
 use records::record::count_of;
@@ -27,7 +28,7 @@ pub fn find_node_path(table: &[u8], offset: usize) -> Gathered
 }
 
 // The same, where no child of record 0 before the first that is named holds the offset. Each turn enters the first record of a part, and seeks its
-// first child that holds the offset: the part from there on is the next.
+// first child that holds the offset: the part from there on is the next, or from the last of a run of plain nodes down from there.
 pub fn path_from(table: &[u8], offset: usize, first: usize) -> Gathered
     requires { ⌜ ((0 < count (now table)) × (count (now table) < wordLimit)) × Starts (now table) offset first ⌝ }
     ensures { λ r. ⌜ (r ≡ gathered (pathAt (now (table .entry)) offset)) × Within (count (now (table .entry))) r ⌝ }
@@ -48,8 +49,9 @@ pub fn path_from(table: &[u8], offset: usize, first: usize) -> Gathered
             }
             i = child_from(s, i + 1);
         };
-        let part = rest_from(s, found);
-        base += found;
+        let last = run_down(g.kind, s, found, offset);
+        let part = rest_from(s, last);
+        base += last;
         i = child_from(part, 1);
         s = part;
     }

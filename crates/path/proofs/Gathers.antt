@@ -20,7 +20,7 @@ or-assoc : (a b c : Bool) → ((a || b) || c) ≡ (a || (b || c))
 or-assoc true b c = refl
 or-assoc false b c = refl
 
-or-none : (a : Bool) → (a || false) ≡ a
+pub or-none : (a : Bool) → (a || false) ≡ a
 or-none true = refl
 or-none false = refl
 

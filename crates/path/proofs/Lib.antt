@@ -1,5 +1,6 @@
 pub mod Gathers
 pub mod Kinded
 pub mod Nests
+pub mod Runs
 pub mod Steps
 pub mod StartLaws

@@ -1,3 +1,4 @@
 pub mod Gathered
+pub mod Plain
 pub mod Rules
 pub mod Starts
