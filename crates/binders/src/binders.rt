@@ -1,10 +1,8 @@
 // What the WITH items and the column aliases of a clause bind, written as entries: one walk for both.
 use forest::nodes::node_from;
 use forest::stretch::stretch_of;
-use names::bindings::put_bound;
-use names::names::Bound;
-use names::names::extract_alias_name;
-use names::names::extract_cte;
+use names::bindings::put_alias_name;
+use names::bindings::put_cte;
 use records::kinds::COLUMN_ALIAS;
 use records::kinds::COLUMN_LIST;
 use records::kinds::EXPRESSION_LIST;
@@ -18,7 +16,7 @@ ghost use Rattle.records.specs.Table.{count, recordAt, records};
 ghost use Rattle.forest.specs.Forest.{kids};
 ghost use Rattle.conditions.specs.Conditions.{mostRecords};
 ghost use Rattle.lent.specs.Lists.{farthest, Written};
-ghost use Rattle.names.specs.Bindings.{withItems, selectAliases, bindingBytes, bindingRow};
+ghost use Rattle.names.specs.Bindings.{entry, withItems, selectAliases, bindingBytes, bindingRow};
 ghost use Rattle.binders.specs.inner.Binders.{binderKind, isList, binds, names};
 
 // What binds the names of a list: a WITH item or a column alias.
@@ -47,14 +45,23 @@ fn is_list(binder: Binder, k: usize) -> bool
     }
 }
 
-// What the first record of the stretch s binds.
-fn extract_bound(binder: Binder, s: &[u8], base: usize, source: &[u8]) -> Bound
-    requires { ⌜ (0 < count (now s)) × (base + count (now s) ≤ mostRecords) ⌝ }
-    ensures { λ r. ⌜ r ≡ binds binder (now (source .entry)) (recordAt (now (s .entry)) base 0) (kids (records base (now (s .entry)))) ⌝ }
+// Writes what the first record of the stretch s binds.
+fn put_name(
+    binder: Binder,
+    s: &[u8],
+    base: usize,
+    source: &[u8],
+    out: &mut [u8],
+    at: usize,
+) -> usize
+    requires { ⌜ (0 < count (now s)) × (base + count (now s) ≤ mostRecords) × (at < farthest) ⌝ }
+    ensures { λ r. ⌜ Written bindingRow
+        (entry (binds binder (now (source .entry)) (recordAt (now (s .entry)) base 0) (kids (records base (now (s .entry))))))
+        (now (out .entry)) at (now (out .exit)) r × (r ≤ at + bindingBytes) ⌝ }
 {
     match binder {
-        Binder::Item => extract_cte(s, base, source),
-        Binder::Alias => extract_alias_name(s, base, source),
+        Binder::Item => put_cte(s, base, source, out, at),
+        Binder::Alias => put_alias_name(s, base, source, out, at),
     }
 }
 
@@ -79,7 +86,7 @@ fn collect_bound(
         let kind = kind_at(s, i);
         if is_binder(binder, kind) {
             let part = stretch_of(s, i);
-            next = put_bound(extract_bound(binder, part, base + i, source), out, next);
+            next = put_name(binder, part, base + i, source, out, next);
             i = node_from(s, i + count_of(part));
         } else if is_list(binder, kind) {
             let part = stretch_of(s, i);

@@ -2,8 +2,7 @@
 use forest::stretch::reach_below;
 use forest::stretch::rest_from;
 use forest::stretch::stretch_end;
-use names::bindings::put_bound;
-use names::names::extract_cte;
+use names::bindings::put_cte;
 use records::kinds::COLUMN_LIST;
 use records::kinds::WITH_EXPRESSION_ITEM;
 use records::record::count_of;
@@ -60,11 +59,8 @@ pub fn collect_items(
                 if is_below(table, clause + i, n) {
                     return next;
                 }
-                next = put_bound(
-                    extract_cte(rest_from(table, clause + i), clause + i, source),
-                    out,
-                    next,
-                );
+                let item = rest_from(table, clause + i);
+                next = put_cte(item, clause + i, source, out, next);
                 reach = d;
                 i += 1;
             } else {

@@ -7,7 +7,8 @@ use quotes::quotes::no_name;
 use records::record::count_of;
 use records::record::record_at;
 ghost use mathlib.Core.Path.{_≡_};
-ghost use Prim.Native.Nat.{_+_, _≤_, _<_};
+ghost use mathlib.Core.List.{List};
+ghost use Prim.Native.Nat.{ℕ, _+_, _≤_, _<_};
 ghost use Rattle.records.specs.Table.{count, records};
 ghost use Rattle.forest.specs.Forest.{kids};
 ghost use Rattle.conditions.specs.Conditions.{mostRecords};
@@ -64,12 +65,22 @@ pub fn extract_table_identifier(s: &[u8], base: usize, source: &[u8]) -> Pending
     })
 }
 
-// Is a reference pending?
-pub fn is_pending(p: Pending) -> bool
-    ensures { λ r. ⌜ r ≡ pends p ⌝ }
+// Does a table name, the first record of the stretch s, give a reference: has it one part or two?
+pub fn gives_reference(s: &[u8], base: usize) -> bool
+    requires { ⌜ (0 < count (now s)) × (base + count (now s) ≤ mostRecords) ⌝ }
+    ensures { λ r. ⌜ ((src : List ℕ) → r ≡ pends (fresh src base (direct isPart (kids (records base (now (s .entry))))))) ⌝ }
 {
-    match p {
-        Pending::Nothing => false,
-        Pending::Held(_) => true,
+    let m = count_of(s);
+    let mut parts: usize = 0;
+    let mut i = child_from(s, 1);
+    while i < m {
+        let t = record_at(s, base, i);
+        if is_part(t) {
+            parts += 1;
+            i = child_from(s, i + 1);
+        } else {
+            i = child_from(s, i + 1);
+        }
     }
+    (1 <= parts) & (parts <= 2)
 }

@@ -1,9 +1,10 @@
 -- The pending reference by the records that make it.
 --     waiting-..     what each case of it is
+--     waits-..       is there one
 --     alias-set      after an alias it is the reference that the alias makes of it
 -- Assumes nothing.
 use Prim.Native.Nat.{ℕ, _+_}
-use mathlib.Core.Path.{_≡_, refl}
+use mathlib.Core.Path.{_≡_, refl, sym, ap, _∙_}
 use mathlib.Core.Bool.{Bool, true, false, cond}
 use mathlib.Core.List.{List}
 use borrow.Author.Tests.{eq-eqb, ne-eqb}
@@ -17,6 +18,7 @@ use Rattle.names.specs.Names.{isPart, direct, aliasIn}
 use Rattle.references.specs.declared.pending.Pending.{Pending}
 use Rattle.references.specs.declared.pending.Pending.the-variants.{Nothing, Held}
 use Rattle.references.specs.References.{fresh}
+use Rattle.references.specs.inner.Pending.{pends}
 use Rattle.tables.specs.Tables.{aliased}
 use Rattle.tables.specs.inner.Waiting.{freshAt, boundAt, pendingAt, newer, aliasAfter}
 
@@ -30,6 +32,12 @@ unfolding aliased
 later-sets Nothing c z = refl
 later-sets (Held t) Unnamed z = refl
 later-sets (Held t) (Named y) z = refl
+
+alias-keeps : (p : Pending) (b : Bound) → pends (aliased p b) ≡ pends p
+unfolding aliased
+alias-keeps Nothing b = refl
+alias-keeps (Held t) Unnamed = refl
+alias-keeps (Held t) (Named z) = refl
 
 module _ (src : List ℕ) (base : ℕ) (s : List ℕ) where
   -- ---- the cases
@@ -48,6 +56,18 @@ module _ (src : List ℕ) (base : ℕ) (s : List ℕ) where
         → {x : Pending} → x ≡ aliased r b → x ≡ pendingAt src base s n a
     unfolding pendingAt freshAt boundAt
     waiting-both {a} z q f g = rw (ne-eqb n 0 h, ne-eqb a 0 z, ← p, ← q, ← e, ← f) g
+
+  pub waits-not : {n : ℕ} (a : ℕ) → n ≡ 0 → false ≡ pends (pendingAt src base s n a)
+  waits-not a e = ap (λ (p : Pending). pends p) (waiting-none a e)
+
+  pub waits : {n : ℕ} (a : ℕ) → (n ≡ 0 → ⊥) → {t : List ℕ} → t ≡ part s n (stretchEnd s n) → {x : Bool}
+      → x ≡ pends (fresh src (base + n) (direct isPart (kids (records (base + n) t)))) → x ≡ pends (pendingAt src base s n a)
+  unfolding pendingAt freshAt
+  waits {n} a h p e = rw (ne-eqb n 0 h, ← p) (e ∙ go (eqb a 0) _ _)
+    where
+      go : (b : Bool) (r : Pending) (q : Bound) → pends r ≡ pends (cond b r (aliased r q))
+      go true r q = refl
+      go false r q = sym (alias-keeps r q)
 
   pub bound-at : (i : ℕ) {t : List ℕ} {b : Bound} → t ≡ part s i (stretchEnd s i) → b ≡ aliasIn src (recordAt t (base + i) 0) (kids (records (base + i) t)) → b ≡ boundAt src base s i
   unfolding boundAt

@@ -1,11 +1,11 @@
 // The table reading: the references and the aliases of FROM and JOIN.
 use crate::waiting::alias_after;
+use crate::waiting::is_waiting;
 use crate::waiting::pending_of;
 use forest::nodes::node_from;
 use forest::stretch::stretch_end;
 use forest::stretch::stretch_of;
-use names::bindings::put_bound;
-use names::names::extract_alias_name;
+use names::bindings::put_alias_name;
 use records::kinds::JOIN_CLAUSE;
 use records::kinds::TABLE_ALIAS;
 use records::kinds::TABLE_EXPRESSION;
@@ -13,9 +13,8 @@ use records::kinds::TABLE_IDENTIFIER;
 use records::record::count_of;
 use records::record::kind_at;
 use references::pending::Pending;
-use references::pending::is_pending;
 use references::references::put_reference;
-ghost use Prim.Native.Nat.{_+_, _*_, _≤_, _<_};
+ghost use Prim.Native.Nat.{ℕ, _+_, _*_, _≤_, _<_};
 ghost use Rattle.records.specs.Table.{count, records};
 ghost use Rattle.forest.specs.Forest.{kids};
 ghost use Rattle.conditions.specs.Conditions.{mostRecords};
@@ -38,21 +37,20 @@ fn put_alias(
     base: usize,
     source: &[u8],
     name: usize,
-    alias: usize,
     i: usize,
     out: &mut [u8],
     at: usize,
 ) -> usize
-    requires { ⌜ (name < count (now s)) × (alias < count (now s)) × (i < count (now s)) × (base + count (now s) ≤ mostRecords) × (at < farthest) ⌝ }
-    ensures { λ r. ⌜ Written asRow (listAlias (rowsOf reads) (pendingAt (now (source .entry)) base (now (s .entry)) name alias)
-        (boundAt (now (source .entry)) base (now (s .entry)) i)) (now (out .entry)) at (now (out .exit)) r × (r ≤ at + referenceBytes) ⌝ }
+    requires { ⌜ (name < count (now s)) × (i < count (now s)) × (base + count (now s) ≤ mostRecords) × (at < farthest) ⌝ }
+    ensures { λ r. ⌜ ((alias : ℕ) → Written asRow (listAlias (rowsOf reads) (pendingAt (now (source .entry)) base (now (s .entry)) name alias)
+        (boundAt (now (source .entry)) base (now (s .entry)) i)) (now (out .entry)) at (now (out .exit)) r) × (r ≤ at + referenceBytes) ⌝ }
 {
     match reads {
         Reads::References => at,
         Reads::Aliases => {
-            if is_pending(pending_of(s, base, source, name, alias)) {
-                let bound = extract_alias_name(stretch_of(s, i), base + i, source);
-                put_bound(bound, out, at)
+            if is_waiting(s, base, name) {
+                let part = stretch_of(s, i);
+                put_alias_name(part, base + i, source, out, at)
             } else {
                 at
             }
@@ -112,7 +110,7 @@ pub fn collect_table_refs(
             alias = 0;
             i = node_from(s, stretch_end(s, i));
         } else if kind == TABLE_ALIAS {
-            next = put_alias(reads, s, base, source, name, alias, i, out, next);
+            next = put_alias(reads, s, base, source, name, i, out, next);
             alias = alias_after(s, base, source, alias, i);
             i = node_from(s, stretch_end(s, i));
         } else if kind == TABLE_EXPRESSION {

@@ -7,10 +7,13 @@ use quotes::quotes::NameRanges;
 use references::pending::Pending;
 use references::pending::TableRef;
 use references::pending::extract_table_identifier;
+use references::pending::gives_reference;
 ghost use mathlib.Core.Path.{_≡_};
-ghost use Prim.Native.Nat.{_+_, _≤_, _<_};
+ghost use mathlib.Core.List.{List};
+ghost use Prim.Native.Nat.{ℕ, _+_, _≤_, _<_};
 ghost use Rattle.records.specs.Table.{count};
 ghost use Rattle.conditions.specs.Conditions.{mostRecords};
+ghost use Rattle.references.specs.inner.Pending.{pends};
 ghost use Rattle.tables.specs.Tables.{aliased};
 ghost use Rattle.tables.specs.inner.Waiting.{pendingAt, aliasAfter};
 
@@ -52,6 +55,17 @@ pub fn pending_of(s: &[u8], base: usize, source: &[u8], name: usize, alias: usiz
     }
     let bound = extract_alias_name(stretch_of(s, alias), base + alias, source);
     with_alias(reference, bound)
+}
+
+// Is a reference pending, by the record of its table name, 0 for none? An alias does not matter to that.
+pub fn is_waiting(s: &[u8], base: usize, name: usize) -> bool
+    requires { ⌜ (name < count (now s)) × (base + count (now s) ≤ mostRecords) ⌝ }
+    ensures { λ r. ⌜ ((src : List ℕ) (alias : ℕ) → r ≡ pends (pendingAt src base (now (s .entry)) name alias)) ⌝ }
+{
+    if name == 0 {
+        return false;
+    }
+    gives_reference(stretch_of(s, name), base + name)
 }
 
 // The alias that is set after that at record i: it, unless it has no name and another is set.

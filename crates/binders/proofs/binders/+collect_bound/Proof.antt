@@ -8,7 +8,7 @@ use Rattle.forest.proofs.NodeWalks.{NodeWalk, node-start, node-on, node-over}
 use Rattle.forest.specs.Forest.{kids}
 use Rattle.records.specs.Table.{records}
 use lib.ListN.{length}
-use mathlib.Core.Path.{_≡_}
+use mathlib.Core.Path.{_≡_, refl}
 use Prim.Native.Nat.{_+_, _-_, _*_, _≤_, ℕ, _<_}
 use native.Mathlib.Omega.{arith}
 use borrow.Fn.Kinds.{In}
@@ -18,10 +18,9 @@ use Rattle.binders.proofs.binders.+collect_bound.Tie.{close}
 use Rattle.binders.proofs.binders.collect_bound.Reads as collect-bound
 use Rattle.binders.proofs.binders.collect_bound.Kinds as collect-bound-kinds
 use Rattle.binders.proofs.binders.+collect_bound.Lts-collect_bound as collect-bound-lts
-use Rattle.binders.proofs.binders.extract_bound.Reads as extract-bound-reads
 use Rattle.binders.proofs.binders.is_binder.Reads as is-binder-reads
 use Rattle.binders.proofs.binders.is_list.Reads as is-list-reads
-use Rattle.names.proofs.bindings.put_bound.Reads as put-bound-reads
+use Rattle.binders.proofs.binders.put_name.Reads as put-name-reads
 use Rattle.records.proofs.record.count_of.Reads as count-of-reads
 use Rattle.records.proofs.record.kind_at.Reads as kind-at-reads
 use Rattle.forest.proofs.nodes.node_from.Reads as node-from-reads
@@ -62,10 +61,8 @@ claims t = (
   is-binder-reads.Learnt,
   stretch-of-reads.Asked,
   stretch-of-reads.Learnt,
-  extract-bound-reads.Asked,
-  extract-bound-reads.Learnt,
-  put-bound-reads.Asked,
-  put-bound-reads.Learnt,
+  put-name-reads.Asked,
+  put-name-reads.Learnt,
   is-list-reads.Asked,
   is-list-reads.Learnt,
   collect-bound-below t,
@@ -79,8 +76,8 @@ module _ (t : ℕ) where
   loop-again : collect-bound-lts.Need-loop-again (claims t) (collect-bound-at t) collect-bound.Post collect-bound-Inv-loop collect-bound-μ-loop
   loop-again c = (
     omega arith,
-    node-on (writing bindingRow (names _ _) _ _) (names-pass _ _ _ _) (c .before .before .before .before .before .before .before .before .before .before .before .before .loop .inv .1) (omega arith) (c .before .before .before .before .before .before .before .stretch-of .ensures .0) (omega arith) (c .node-from2 .ensures)
-        (λ f. writing-turn bindingRow (names _ _) (names _ _) _ _ (names-bind _ _ _ _ _ f (c .before .before .before .before .before .before .before .before .before .before .kind-at .ensures .0) (omega arith) (c .before .before .before .before .before .before .before .stretch-of .ensures .0) (c .before .before .before .before .before .before .before .before .before .is-binder .ensures) (c .before .before .before .before .before .before .before .before .if1 .taken) (c .before .before .before .before .before .before .extract-bound .ensures)) (c .before .before .before .before .put-bound .ensures .0)),
+    node-on (writing bindingRow (names _ _) _ _) (names-pass _ _ _ _) (c .before .before .before .before .before .before .before .before .before .before .before .loop .inv .1) (omega arith) (c .before .before .before .before .before .before .stretch-of .ensures .0) (omega arith) (c .node-from2 .ensures)
+        (λ f. writing-turn bindingRow (names _ _) (names _ _) _ _ (names-bind _ _ _ _ _ f (c .before .before .before .before .before .before .before .before .before .kind-at .ensures .0) (omega arith) (c .before .before .before .before .before .before .stretch-of .ensures .0) (c .before .before .before .before .before .before .before .before .is-binder .ensures) (c .before .before .before .before .before .before .before .if1 .taken) refl) (c .before .before .before .before .put-name .ensures .0)),
   )
 
   collect-bound-requires : collect-bound-lts.Need-collect-bound-requires (claims t) (collect-bound-at t) collect-bound.Post collect-bound-Inv-loop collect-bound-μ-loop
@@ -120,9 +117,8 @@ pub +collect-bound-spec : {M : Type 1} → statement M
     (λ c κs. omega arith)  -- kind-at-requires
     (λ c κs. omega arith)  -- is-binder-requires
     (λ c κs. omega arith)  -- stretch-of-requires
-    (λ c. omega arith)  -- add-extract-bound
-    (λ c κs. omega arith)  -- extract-bound-requires
-    (λ c κs. omega arith)  -- put-bound-requires
+    (λ c. omega arith)  -- add-put-name
+    (λ c κs. omega arith)  -- put-name-requires
     (λ c κs. omega arith)  -- count-of-requires-2
     (λ c. omega arith)  -- add-node-from
     (λ c κs. omega arith)  -- node-from-requires-2

@@ -1,6 +1,6 @@
 use Rattle.items.proofs.ItemLaws.{Picking, pick-start, pick-end, pick-stop, pick-over, pick-on, pick-held, pick-item}
 use lib.ListN.{length}
-use mathlib.Core.Path.{_≡_, sym, _∙_}
+use mathlib.Core.Path.{_≡_, refl, sym, _∙_}
 use Prim.Native.Nat.{_+_, _-_, _*_, _≤_}
 use native.Mathlib.Omega.{arith}
 use Rattle.items.proofs.items.collect_items.Statement.{statement}
@@ -38,12 +38,11 @@ collect-items-spec =
     (λ c. (pick-held _ _ _ (c .before .before .before .before .before .before .before .before .loop .inv .1) (omega arith) (omega arith) (omega arith) (omega arith) (c .before .before .before .before .before .before .before .before .before .before .before .rest-from .ensures .0) (sym (c .before .is-below .ensures) ∙ c .if4 .taken), omega arith))  -- returns-2
     (λ c. omega arith)  -- add-rest-from
     (λ c κs. omega arith)  -- rest-from-requires-2
-    (λ c. omega arith)  -- add-extract-cte
-    (λ c κs. omega arith)  -- extract-cte-requires
-    (λ c κs. omega arith)  -- put-bound-requires
+    (λ c. omega arith)  -- add-put-cte
+    (λ c κs. omega arith)  -- put-cte-requires
     (λ c. omega arith)  -- add-i-2
     (λ c. omega arith)  -- loop-less-2
-    (λ c. (omega arith, pick-item _ _ _ (c .before .before .before .before .before .before .before .before .before .before .before .before .before .before .loop .inv .1) (omega arith) (omega arith) (omega arith) (omega arith) (c .before .before .before .before .before .before .before .before .before .before .before .before .before .before .before .before .before .rest-from .ensures .0) (omega arith) (sym (c .before .before .before .before .before .before .before .is-below .ensures) ∙ c .before .before .before .before .before .before .if4 .left) (c .before .before .before .before .before .rest-from2 .ensures .0) (c .before .before .before .before .extract-cte .ensures) (c .before .before .put-bound .ensures .0)))  -- loop-again-2
+    (λ c. (omega arith, pick-item _ _ _ (c .before .before .before .before .before .before .before .before .before .before .before .before .before .loop .inv .1) (omega arith) (omega arith) (omega arith) (omega arith) (c .before .before .before .before .before .before .before .before .before .before .before .before .before .before .before .before .rest-from .ensures .0) (omega arith) (sym (c .before .before .before .before .before .before .is-below .ensures) ∙ c .before .before .before .before .before .if4 .left) (c .before .before .before .before .rest-from2 .ensures .0) refl (c .before .before .put-cte .ensures .0)))  -- loop-again-2
     (λ c κs. omega arith)  -- reach-below-requires
     (λ c. omega arith)  -- add-i-3
     (λ c. omega arith)  -- loop-less-3

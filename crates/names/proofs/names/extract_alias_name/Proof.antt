@@ -31,5 +31,5 @@ extract-alias-name-spec =
     (λ c. omega arith)  -- add-child-from
     (λ c κs. omega arith)  -- child-from-requires-2
     (λ c. omega arith)  -- loop-less
-    (λ c. (omega arith, walk-next (c .before .before .before .before .loop .inv .1) (omega arith) (c .child-from2 .ensures) (λ g f. last-token _ _ _ _ (cc) f) (λ g b f. last-over _ _ _ _ (cc) b f (unfold recordAt in g))))  -- loop-again
+    (λ c. (omega arith, walk-next (c .before .before .before .before .loop .inv .1) (omega arith) (c .child-from2 .ensures) (λ g f. last-token _ _ _ _ (rw (c .before .before .record-at2 .ensures) at (c .before .later .ensures)) f) (λ g b f. last-over _ _ _ _ (rw (c .before .before .record-at2 .ensures) at (c .before .later .ensures)) b f (unfold recordAt in g))))  -- loop-again
     (λ c. rw (← c .before .before .before .record-at .ensures) (last-end _ _ _ ∙ walk-end (c .before .loop .inv .1) (omega arith))))  -- returns

@@ -1,4 +1,4 @@
-use mathlib.Core.Path.{_∙_}
+use mathlib.Core.Path.{sym, _∙_}
 use Rattle.names.proofs.NameLaws.{first-stop, first-end, first-on, first-over}
 use Rattle.names.specs.Names.{withItem}
 use Rattle.forest.proofs.Walks.{Walk, walk-start, walk-end, walk-next}
@@ -33,5 +33,5 @@ extract-cte-spec =
     (λ c. omega arith)  -- add-child-from
     (λ c κs. omega arith)  -- child-from-requires-2
     (λ c. omega arith)  -- loop-less
-    (λ c. (omega arith, walk-next (c .before .before .before .before .before .loop .inv .1) (omega arith) (c .child-from2 .ensures) (λ g f. first-on _ _ _ f (cc)) (λ g b f. first-over _ _ _ b f)))  -- loop-again
+    (λ c. (omega arith, walk-next (c .before .before .before .before .before .loop .inv .1) (omega arith) (c .child-from2 .ensures) (λ g f. first-on _ _ _ f (rw (c .before .before .before .record-at .ensures) at (sym (c .before .before .is-name .ensures) ∙ c .before .if1 .left))) (λ g b f. first-over _ _ _ b f)))  -- loop-again
     (λ c. first-end _ _ ∙ walk-end (c .before .loop .inv .1) (omega arith)))  -- returns-2

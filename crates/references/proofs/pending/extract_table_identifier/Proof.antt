@@ -35,11 +35,11 @@ extract-table-identifier-spec =
     (λ c. omega arith)  -- add-child-from
     (λ c κs. omega arith)  -- child-from-requires-2
     (λ c. omega arith)  -- loop-less
-    (λ c. (omega arith, walk-next (c .before .before .before .before .before .before .loop .inv .1) (omega arith) (c .child-from2 .ensures) (λ g f. shifted-part _ _ _ _ _ _ f (cc) (cc)) (λ g b f. absurd (part-not _ (sym (c .before .before .before .is-part .ensures) ∙ c .before .before .if1 .taken) (rw (c .before .before .before .before .record-at .ensures) (unfold recordAt in g))))))  -- loop-again
+    (λ c. (omega arith, walk-next (c .before .before .before .before .before .before .loop .inv .1) (omega arith) (c .child-from2 .ensures) (λ g f. shifted-part _ _ _ _ _ _ f (rw (c .before .before .before .before .record-at .ensures) at (sym (c .before .before .before .is-part .ensures) ∙ c .before .before .if1 .taken)) (rw (c .before .before .before .before .record-at .ensures) at (c .before .name-of .ensures))) (λ g b f. absurd (part-not _ (sym (c .before .before .before .is-part .ensures) ∙ c .before .before .if1 .taken) (rw (c .before .before .before .before .record-at .ensures) (unfold recordAt in g))))))  -- loop-again
     (λ c. omega arith)  -- add-child-from-2
     (λ c κs. omega arith)  -- child-from-requires-3
     (λ c. omega arith)  -- loop-less-2
-    (λ c. (omega arith, walk-next (c .before .before .before .before .before .loop .inv .1) (omega arith) (c .child-from3 .ensures) (λ g f. shifted-on _ _ _ _ _ _ f (cc)) (λ g b f. shifted-over _ _ _ _ _ _ b f)))  -- loop-again-2
+    (λ c. (omega arith, walk-next (c .before .before .before .before .before .loop .inv .1) (omega arith) (c .child-from3 .ensures) (λ g f. shifted-on _ _ _ _ _ _ f (rw (c .before .before .before .record-at .ensures) at (sym (c .before .before .is-part .ensures) ∙ c .before .if1 .left))) (λ g b f. shifted-over _ _ _ _ _ _ b f)))  -- loop-again-2
     (λ c. shifted-none _ _ _ _ _ (omega arith) ∙ walk-end (c .before .before .loop .inv .1) (omega arith))  -- returns
     (λ c. shifted-many _ _ _ _ _ (omega arith) ∙ walk-end (c .before .before .before .loop .inv .1) (omega arith))  -- returns-2
     (λ c κs. omega arith)  -- no-name-requires-3

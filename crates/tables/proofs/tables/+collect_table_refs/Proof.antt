@@ -94,7 +94,7 @@ module _ (t : ℕ) where
   loop-again-2 c = (
     omega (arith, c .before .before .alias-after .ensures .1),
     node-on (writing asRow (tableReading _ _ _) _ _) (reading-passes asRow _ _ _ _ _) (c .before .before .before .before .before .before .before .before .before .before .before .loop .inv .1) (omega arith) refl (c .before .stretch-end2 .ensures .0) (c .node-from3 .ensures)
-        (λ f. writing-turn asRow (tableReading _ _ _) (tableReading _ _ _) _ _ (read-alias _ _ _ _ _ _ f (omega arith) refl (omega arith) (sym (bound-at _ _ _ _ refl refl)) (rw (c .before .before .alias-after .ensures .0) (alias-set _ _ _ _ _ _ (λ z. omega arith)))) (c .before .before .before .before .before .put-alias .ensures .0)),
+        (λ f. writing-turn asRow (tableReading _ _ _) (tableReading _ _ _) _ _ (read-alias _ _ _ _ _ _ f (omega arith) refl (omega arith) (sym (bound-at _ _ _ _ refl refl)) (rw (c .before .before .alias-after .ensures .0) (alias-set _ _ _ _ _ _ (λ z. omega arith)))) (c .before .before .before .before .before .put-alias .ensures .0 _)),
   )
 
   collect-table-refs-requires : collect-table-refs-lts.Need-collect-table-refs-requires (claims t) (collect-table-refs-at t) collect-table-refs.Post collect-table-refs-Inv-loop collect-table-refs-μ-loop

@@ -3,6 +3,7 @@ use Rattle.tables.proofs.WaitingLaws.{bound-at}
 use Rattle.lent.proofs.Writes.{written-none, written-map}
 use Rattle.names.specs.Bindings.{bindingRow}
 use Rattle.tables.specs.inner.Rows.{asRow}
+use mathlib.Core.Path.{refl}
 use native.Mathlib.Omega.{arith}
 use borrow.Author.Needs.{needs}
 use Rattle.tables.proofs.tables.put_alias.Statement.{statement}
@@ -14,13 +15,11 @@ put-alias-spec =
     (tie.spec
     (λ c. search needs)  -- enum-told
     (λ c. search needs)  -- enum-told-2
-    (λ c κs. omega arith)  -- pending-of-requires
-    (λ c κs. omega arith)  -- is-pending-requires
+    (λ c κs. omega arith)  -- is-waiting-requires
     (λ c κs. omega arith)  -- stretch-of-requires
-    (λ c. omega arith)  -- add-extract-alias-name
-    (λ c κs. omega arith)  -- extract-alias-name-requires
-    (λ c κs. omega arith)  -- put-bound-requires
-    (λ c. (rw (c .enum-told .given .1, alias-none _ _) (written-none asRow _ _), omega arith))  -- returns
+    (λ c. omega arith)  -- add-put-alias-name
+    (λ c κs. omega arith)  -- put-alias-name-requires
+    (λ c. (λ alias. rw (c .enum-told .given .1, alias-none _ _) (written-none asRow _ _), omega arith))  -- returns
     (λ c. search needs)  -- same-length
-    (λ c. (rw (c .before .before .before .before .before .before .before .before .before .enum-told2 .given .1, ← c .before .before .before .before .before .before .before .before .pending-of .ensures, ← bound-at _ _ _ _ (c .before .before .before .before .before .stretch-of .ensures .0) (c .before .before .before .before .extract-alias-name .ensures), alias-held _ _ (c .before .before .before .before .before .before .before .is-pending .ensures) (c .before .before .before .before .before .before .if1 .taken)) (written-map bindingRow _ (c .before .before .put-bound .ensures .0)), omega arith))  -- returns-2
-    (λ c. (rw (← c .before .before .pending-of .ensures, alias-idle _ _ _ (c .before .is-pending .ensures) (c .if1 .left)) (written-none asRow _ _), omega arith)))  -- returns-3
+    (λ c. (λ alias. rw (c .before .before .before .before .before .before .before .enum-told2 .given .1, ← bound-at _ _ _ _ (c .before .before .before .before .stretch-of .ensures .0) refl, alias-held _ _ (c .before .before .before .before .before .before .is-waiting .ensures _ alias) (c .before .before .before .before .before .if1 .taken)) (written-map bindingRow _ (c .before .before .put-alias-name .ensures .0)), omega arith))  -- returns-2
+    (λ c. (λ alias. rw (alias-idle _ _ _ (c .before .is-waiting .ensures _ alias) (c .if1 .left)) (written-none asRow _ _), omega arith)))  -- returns-3
