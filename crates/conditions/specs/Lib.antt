@@ -1,2 +1,1 @@
 pub mod Conditions
-pub mod inner

@@ -1,4 +1,3 @@
-// The conditions of the refusals, each as a test: of the table and the lengths as a whole, and of one record.
+// The conditions of the refusals; those of the table and the lengths as a whole as tests.
 pub mod refusal;
-pub mod step;
 pub mod whole;

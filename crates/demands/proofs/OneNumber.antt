@@ -11,7 +11,7 @@ use Rattle.brackets.specs.Brackets.{stackLeft, hintOf}
 use Rattle.statement.specs.Statement.{enclosingAt}
 use Rattle.cursor_root.specs.Root.{rootAt}
 use Rattle.replies.specs.Reply.{packed, answered, hintRecord, verdictReply, hintReply, statementNumber, rootNumber}
-use Rattle.replies.proofs.Apart.{apart}
+use Rattle.demands.proofs.Apart.{apart}
 use Rattle.demands.specs.declared.Question.{Question}
 use Rattle.demands.specs.declared.Question.the-variants.{Check, BracketHint, EnclosingStatement, CursorRoot}
 use Rattle.demands.specs.Questions.{Asked, rows, statementRecord, matter, answerOf}

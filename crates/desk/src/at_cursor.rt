@@ -1,5 +1,6 @@
 // The questions at an offset, for C: the context, that of many offsets at once, the enclosing statement, the cursor's root and its four lists; and all of
 // it in one call.
+use context_entry::context_entry::list_context;
 use contexts::context::ContextReply;
 use cursor::cursor_context::cursor_context;
 use cursor_replies::column_aliases_reply_at;
@@ -9,7 +10,6 @@ use cursor_replies::with_names_reply_at;
 use cursor_root::root::cursor_root;
 use cursors::cursors::cursor_contexts;
 use everything::everything::everything_at;
-use replies::reply::list_context;
 use replies::reply::list_reply;
 use replies::reply::packed;
 use replies::reply::root_number;

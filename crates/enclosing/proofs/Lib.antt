@@ -1,3 +1,2 @@
 pub mod ClimbLaws
 pub mod Climbs
-pub mod OfferedLists

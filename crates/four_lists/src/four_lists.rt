@@ -1,8 +1,8 @@
 // The four lists of a root at once, each in a buffer of its own: how many entries they have, and their bytes.
 use clauses::clauses::ScopeList;
-use enclosing::enclosing::list_offered;
 use lent::list::Listed;
 use lists::lists::list_in;
+use offered::offered::list_offered;
 use rooms::rooms::Counts;
 ghost use mathlib.Core.Path.{_≡_};
 ghost use mathlib.Core.List.{[]};

@@ -1,6 +1,4 @@
 // A loop that only says that every record is in order, and says it fast.
-use conditions::step::DEPTHS;
-use conditions::step::MOST_DEPTH;
 use records::kinds::LAST_NODE;
 use records::kinds::is_token;
 use records::record::RECORD_BYTES;
@@ -9,6 +7,8 @@ use records::record::end_at;
 use records::record::kind_at;
 use records::record::parent_at;
 use records::record::start_at;
+use step::step::DEPTHS;
+use step::step::MOST_DEPTH;
 ghost use mathlib.Core.Path.{_≡_};
 ghost use mathlib.Core.Bool.{true, false};
 ghost use Prim.Native.Nat.{_+_, _≤_, _<_};
@@ -78,7 +78,8 @@ fn unexpected() -> Expected
 
 // What is expected after record i. `nodes[d]` is the last node one less deep than d.
 fn follow(table: &[u8], i: usize, e: Expected, nodes: &mut [u32]) -> Expected
-    requires { ⌜ ((1 ≤ i) × (i < count (now table)) × (count (now table) ≤ mostRecords)) × InOrder (now table) i (e .limit) (e .parent) (e .last) (now nodes) ⌝ }
+    requires { ⌜ ((1 ≤ i) × (i < count (now table)) × (count (now table) ≤ mostRecords))
+        × InOrder (now table) i (e .limit) (e .parent) (e .last) (now nodes) ⌝ }
     ensures { λ r. ⌜ (r .fits ≡ true → InOrder (now (table .entry)) (i + 1) (r .limit) (r .parent) (r .last) (now (nodes .exit))) ⌝ }
 {
     let depth = depth_at(table, i);

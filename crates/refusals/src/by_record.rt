@@ -1,15 +1,15 @@
 // The first rule that a record breaks, record by record.
 use conditions::refusal::BAD_SPAN;
 use conditions::refusal::WRONG_PARENT;
-use conditions::step::DEPTHS;
-use conditions::step::Known;
-use conditions::step::after;
-use conditions::step::misfit;
-use conditions::step::off_source;
-use conditions::step::strays;
 use lent::verdict::Verdict;
 use records::record::RECORD_BYTES;
 use records::record::record_at;
+use step::step::DEPTHS;
+use step::step::Known;
+use step::step::after;
+use step::step::misfit;
+use step::step::off_source;
+use step::step::strays;
 ghost use mathlib.Core.Path.{_≡_};
 ghost use Prim.Native.Nat.{_≤_};
 ghost use Rattle.lent.specs.Verdicts.{first};

@@ -1,22 +1,14 @@
 // A reply as one number: its low 32 bits are the refusal's number, 0 where the question is answered, and its high 32 bits the detail or
-// the answer. A context is an entry besides.
+// the answer.
 use brackets::bracket_matching::Hint;
 use brackets::bracket_matching::HintReply;
-use contexts::context::CursorContext;
-use contexts::context::code_of;
 use cursor_root::root::RootReply;
 use lent::list::Listed;
-use lent::list::put_entry;
-use lent::number::NUMBER_BYTES;
 use lent::number::WORD_LIMIT;
-use lent::verdict::NO_ROOM;
 use lent::verdict::Verdict;
 use records::range::ABSENT;
 use statement::statement::StatementReply;
 ghost use mathlib.Core.Path.{_≡_};
-ghost use mathlib.Core.List.{[], _∷_};
-ghost use Rattle.lent.specs.Lists.{Answers};
-ghost use Rattle.contexts.specs.Context.{contextRow};
 ghost use Rattle.replies.specs.Reply.{packed, verdictReply, listReply, hintRecord, hintReply, statementNumber, rootNumber};
 
 // How many values a half of a reply has.
@@ -94,22 +86,4 @@ pub fn root_number(s: RootReply) -> u64
         RootReply::Root(n) => packed(ANSWERED, n),
         RootReply::Refused(k, d) => packed(k, d),
     }
-}
-
-// How many bytes a context takes.
-const CONTEXT_BYTES: usize = 4 * NUMBER_BYTES;
-
-// Writes a context's entry where there is room for it.
-pub fn list_context(c: CursorContext, out: &mut [u8]) -> Listed
-    ensures { λ r. ⌜ Answers [] contextRow
-        (c ∷ []) (now (out .entry)) r (now (out .exit)) ⌝ }
-{
-    let k = code_of(c);
-    let name = k.name;
-    if out.len() < CONTEXT_BYTES {
-        return Listed::Refused(NO_ROOM, 1);
-    }
-    let entry = [k.number, name.start, name.end, k.index];
-    put_entry(out, 0, &entry);
-    Listed::Entries(1)
 }
