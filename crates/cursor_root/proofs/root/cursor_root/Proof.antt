@@ -11,6 +11,6 @@ cursor-root-spec =
     (λ c κs. search needs)  -- check-requires
     (λ c. search needs)  -- enum-known-k
     (λ c. search needs)  -- enum-told
-    (λ c κs. admitted-sized _ _ (c .before .before .check .ensures) (cc))  -- root-at-requires
+    (λ c κs. admitted-sized _ _ (c .before .before .check .ensures) (c .enum-told .given .1))  -- root-at-requires
     (λ c. root-refused _ (c .before .before .before .check .ensures) (c .before .k .given .1))  -- returns
-    (λ c. root-given _ (c .before .before .before .check .ensures) (cc) (c .root-at .ensures)))  -- returns-2
+    (λ c. root-given _ (c .before .before .before .check .ensures) (c .before .enum-told .given .1) (c .root-at .ensures)))  -- returns-2

@@ -15,4 +15,4 @@ root-at-spec =
     (λ c. search needs)  -- enum-known-n
     (λ c. search needs)  -- enum-told
     (λ c. root-statement _ _ (c .before .before .before .before .before .find-node-path .ensures .0) (c .before .before .before .before .if1 .left) (c .before .before .before .find-enclosing-statement .ensures) (c .before .n .given .1))  -- returns-2
-    (λ c. root-first _ _ (c .before .before .before .before .find-node-path .ensures .0) (c .before .before .before .if1 .left) (c .before .before .find-enclosing-statement .ensures) (cc)))  -- returns-3
+    (λ c. root-first _ _ (c .before .before .before .before .find-node-path .ensures .0) (c .before .before .before .if1 .left) (c .before .before .find-enclosing-statement .ensures) (c .enum-told .given .1)))  -- returns-3
