@@ -4,7 +4,7 @@
 --     descent-run     at the child that is taken, where a run goes down from it: the outer loop's next turn is at the run's last node
 -- Assumes nothing.
 use Prim.Native.Nat.{ℕ, zero, suc, _+_, _-_, _*_, _≤_, _<_}
-use mathlib.Core.Path.{_≡_, refl, sym, ap, _∙_}
+use mathlib.Core.Path.{_≡_, refl, sym, ap}
 use mathlib.Core.Bool.{Bool, true, false, _&&_}
 use mathlib.Core.List.{List}
 use mathlib.Core.Logic.{_⊎_, inl, inr, ⊎-elim}
@@ -126,6 +126,7 @@ module _ {o : ℕ} {s : List ℕ} {base j : ℕ} {g : Gathered} {«all» : Gathe
   abbrev rest : ℕ → List ℕ
   rest n = drop (recordBytes * n) s
 
+  -- the descent at the node n below j
   below : (n : ℕ) → j + n ≤ r → (isNode (kindAt s j) && holds o (recordAt s base j)) ≡ true
       → Down (way o) (rest (j + n)) (base + (j + n)) (stepped g (kindAt s (j + n)) (base + (j + n))) «all»
   unfolding recordAt
@@ -151,6 +152,7 @@ module _ {o : ℕ} {s : List ℕ} {base j : ℕ} {g : Gathered} {«all» : Gathe
       let b : base + i + 1 ≡ base + (i + 1) = omega arith in
       rw (← z, ← b) (descent-tail d m t q (rw kind (sym f)))
 
+  -- and at the last of them, from which on p is all the rest
   pub descent-run : {p : List ℕ} → (isNode (kindAt s j) && holds o (recordAt s base j)) ≡ true → p ≡ drop (recordBytes * r) s
       → Down (way o) p (base + r) (stepped g (kindAt p 0) (base + r)) «all»
   descent-run e q =

@@ -3,27 +3,26 @@
 -- Assumes nothing.
 use Prim.Native.Nat.{ℕ, zero, suc, _+_, _-_, _≤_, _<_}
 use mathlib.Core.Path.{_≡_, refl, sym, ap, _∙_}
-use mathlib.Core.Logic.{_⊎_, inl, inr, ⊎-elim}
+use mathlib.Core.Logic.{_⊎_, ⊎-elim}
 use mathlib.Core.Bool.{Bool, true, false, cond, _&&_}
 use mathlib.Core.List.{List, [], _∷_}
 use native.Mathlib.Numerals.{add-one}
 use native.Mathlib.Nat.{zero-add}
 use native.Mathlib.Omega.{arith}
 use borrow.Author.Tests.{lt-ltb, le-ltb, le-leb, lt-leb}
-use lib.Dec.{leb}
 use Rattle.lent.proofs.Cases.{lt-or-le}
 use Rattle.records.specs.declared.record.Rec.{Rec}
 use Rattle.records.specs.Kinds.{isNode, lastNode}
 use Rattle.records.specs.Ranges.{spans, holds}
 use Rattle.records.specs.Table.{count, kindAt, depthAt, startAt, endAt, recordAt, from, records}
 use Rattle.forest.specs.Forest.{Forest, nil, token, node, level, kids, Reached}
-use Rattle.forest.specs.inner.Scan.{Reading, fold}
+use Rattle.forest.specs.inner.Scan.{fold}
 use Rattle.forest.proofs.Laws.{node-or-token, level-shallow, level-deep, level-token, level-node, from-cons}
 use Rattle.forest.proofs.Scans.{sweep, Sweep, sweep-start, sweep-end, sweep-stop, sweep-token, sweep-into, sweep-past, sweep-far}
 use Rattle.statement.specs.declared.statement.Enclosing.{Enclosing}
 use Rattle.statement.specs.declared.statement.Enclosing.the-variants.{Outside, Record}
 use Rattle.statement.specs.Statement.{isStatement, itself, orElse, firstFind}
-use Rattle.statement.specs.inner.Search.{Sofar, given, goesInto, met, passing}
+use Rattle.statement.specs.inner.Search.{Sofar, given, met, passing}
 
 -- ---- the tree is as deep as its records say
 

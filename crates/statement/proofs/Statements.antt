@@ -11,7 +11,7 @@ use native.Mathlib.Omega.{arith}
 use Rattle.records.specs.declared.record.Rec.{Rec}
 use Rattle.lent.specs.declared.verdict.Verdict.{Verdict}
 use Rattle.lent.specs.declared.verdict.Verdict.the-variants.{Admitted, Refused}
-use Rattle.records.specs.Table.{kindAt, startAt, endAt, recordAt, from, records}
+use Rattle.records.specs.Table.{kindAt, startAt, endAt, recordAt, records}
 use Rattle.forest.specs.Forest.{Forest, nil, token, node, kids}
 use Rattle.forest.specs.Places.{Place, places, nodesOf}
 use Rattle.statement.specs.declared.statement.Enclosing.{Enclosing}

@@ -4,7 +4,7 @@ use Rattle.path.proofs.Runs.{descent-run}
 use Rattle.path.specs.inner.Gathered.{Within, nothing, stepped}
 use Rattle.forest.proofs.Descents.{answer, Level, descent-start, descent-walk, descent-on, descent-end}
 use Rattle.records.specs.Table.{count, kindAt, records, recordAt}
-use mathlib.Core.Path.{_≡_, refl, sym, _∙_}
+use mathlib.Core.Path.{refl, sym, _∙_}
 use Prim.Native.Nat.{_-_, _+_, _≤_, _<_}
 use native.Mathlib.Omega.{arith}
 use Rattle.descent.proofs.descent.path_from.Statement.{statement}

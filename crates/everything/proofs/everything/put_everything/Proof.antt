@@ -3,7 +3,6 @@ use Rattle.forest.proofs.Orders.{admitted-ordered}
 use Rattle.forest.proofs.Sense.{admitted-sized}
 use mathlib.Core.Path.{refl, sym, ap, _∙_}
 use borrow.Author.Needs.{needs}
-use native.Mathlib.Omega.{arith}
 use Rattle.everything.proofs.everything.put_everything.Statement.{statement}
 use Rattle.everything.proofs.everything.put_everything.Tie as tie
 

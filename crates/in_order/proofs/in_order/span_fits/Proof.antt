@@ -1,5 +1,4 @@
 use borrow.Author.Tests.{lt-ltb, le-ltb}
-use borrow.Author.Needs.{needs}
 use Rattle.in_order.proofs.in_order.span_fits.Statement.{statement}
 use Rattle.in_order.proofs.in_order.span_fits.Tie as tie
 

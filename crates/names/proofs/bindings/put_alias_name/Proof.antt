@@ -1,4 +1,3 @@
-use native.Mathlib.Omega.{arith}
 use borrow.Author.Needs.{needs}
 use Rattle.names.proofs.bindings.put_alias_name.Statement.{statement}
 use Rattle.names.proofs.bindings.put_alias_name.Tie as tie

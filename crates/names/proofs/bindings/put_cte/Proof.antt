@@ -1,4 +1,3 @@
-use native.Mathlib.Omega.{arith}
 use borrow.Author.Needs.{needs}
 use Rattle.names.proofs.bindings.put_cte.Statement.{statement}
 use Rattle.names.proofs.bindings.put_cte.Tie as tie

@@ -1,7 +1,6 @@
 use Rattle.path.specs.inner.Rules.{ruleOf}
 use Rattle.path.specs.Path.{isDeepest, deepestOver}
 use borrow.Author.Tests.{ne-eqb}
-use borrow.Author.Needs.{needs}
 use Rattle.path.proofs.rules.rule_by_kind.Statement.{statement}
 use Rattle.path.proofs.rules.rule_by_kind.Tie as tie
 

@@ -1,5 +1,4 @@
 use Rattle.path.proofs.Steps.{rule-above}
-use mathlib.Core.Path.{sym, _∙_}
 use borrow.Author.Needs.{needs}
 use Rattle.path.proofs.rules.rule_over.Statement.{statement}
 use Rattle.path.proofs.rules.rule_over.Tie as tie
