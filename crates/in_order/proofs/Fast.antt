@@ -19,10 +19,10 @@ use Rattle.records.specs.Table.{count, kindAt, depthAt, startAt, endAt, parentA
 use Rattle.conditions.specs.Conditions.{mostDepth, misplaced, tooDeep, nearest, parentOf, wrongParent, badSpan, lastEnd}
 use Rattle.refusals.specs.ByRecord.{rulesFrom}
 use Rattle.lent.specs.Verdicts.{first}
-use Rattle.step.specs.inner.Step.{depths, deepestNext, knownAt, outOfPlace}
+use Rattle.record_conditions.specs.inner.Step.{depths, deepestNext, knownAt, outOfPlace}
 use Rattle.in_order.specs.inner.Fast.{firstFits, spanFits, Kept, InOrder}
 use Rattle.lent.proofs.Cases.{lt-or-le, eq-or-not, both}
-use Rattle.step.proofs.Steps.{place-at}
+use Rattle.record_conditions.proofs.Steps.{place-at}
 
 -- what is false says nothing
 pub never : {A : Type 0} → false ≡ true → A

@@ -1,4 +1,6 @@
 // A loop that only says that every record is in order, and says it fast.
+use record_conditions::step::DEPTHS;
+use record_conditions::step::MOST_DEPTH;
 use records::kinds::LAST_NODE;
 use records::kinds::is_token;
 use records::record::RECORD_BYTES;
@@ -7,8 +9,6 @@ use records::record::end_at;
 use records::record::kind_at;
 use records::record::parent_at;
 use records::record::start_at;
-use step::step::DEPTHS;
-use step::step::MOST_DEPTH;
 ghost use mathlib.Core.Path.{_≡_};
 ghost use mathlib.Core.Bool.{true, false};
 ghost use Prim.Native.Nat.{_+_, _≤_, _<_};

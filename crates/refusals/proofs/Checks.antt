@@ -21,10 +21,10 @@ use Rattle.lent.specs.Verdicts.{first}
 use Rattle.lent.proofs.Cases.{eq-or-not}
 use Rattle.records.specs.declared.record.Rec.{Rec}
 use Rattle.records.specs.Table.{count, depthAt, parentAt, recordAt}
-use Rattle.step.specs.declared.step.Known.{Known}
+use Rattle.record_conditions.specs.declared.step.Known.{Known}
 use Rattle.conditions.specs.Conditions.{mostDepth, unlisted, misplaced, tooDeep, nearest, parentOf, wrongParent, badSpan, lastEnd}
-use Rattle.step.specs.inner.Step.{depths, deepestNext, knownAt, after, offSource, misfitOf}
-use Rattle.step.proofs.Steps.{early, misfit-at, span-at, after-at}
+use Rattle.record_conditions.specs.inner.Step.{depths, deepestNext, knownAt, after, offSource, misfitOf}
+use Rattle.record_conditions.proofs.Steps.{early, misfit-at, span-at, after-at}
 use Rattle.refusals.specs.ByRecord.{rulesFrom}
 
 -- the verdict on record i by 3, 4 and 5, where it is `on` by the rules behind

@@ -9,7 +9,7 @@ use lib.ListN.{length, getD}
 use Rattle.records.specs.Kinds.{isNode, isToken}
 use Rattle.records.specs.Table.{kindAt, depthAt, startAt, endAt, parentAt}
 use Rattle.conditions.specs.Conditions.{mostDepth, unlisted, misplaced, tooDeep, nearest, wrongParent, lastEnd}
-use Rattle.step.specs.inner.Step.{depths, deepestNext}
+use Rattle.record_conditions.specs.inner.Step.{depths, deepestNext}
 
 -- record 0 is a node of depth 0 that carries 0
 abbrev pub firstFits : List ℕ → Bool

@@ -1,7 +1,7 @@
-use Rattle.step.specs.inner.Step.{strange}
+use Rattle.record_conditions.specs.inner.Step.{strange}
 use borrow.Author.Needs.{needs}
-use Rattle.step.proofs.step.strange.Statement.{statement}
-use Rattle.step.proofs.step.strange.Tie as tie
+use Rattle.record_conditions.proofs.step.strange.Statement.{statement}
+use Rattle.record_conditions.proofs.step.strange.Tie as tie
 
 pub strange-spec : {M : Type 1} → statement M
 unfolding strange

@@ -15,7 +15,7 @@ use Rattle.lent.proofs.Cases.{lt-or-le}
 use Rattle.records.specs.Kinds.{isToken}
 use Rattle.records.specs.Table.{kindAt, depthAt, recordAt}
 use Rattle.conditions.specs.Conditions.{unlisted, misplaced, tooDeep, badSpan, lastEnd}
-use Rattle.step.specs.inner.Step.{deepestNext, knownAt, after, strange, outOfPlace, offSource, misfitOf}
+use Rattle.record_conditions.specs.inner.Step.{deepestNext, knownAt, after, strange, outOfPlace, offSource, misfitOf}
 
 over : (tok : Bool) (d e : ℕ) → ltb (cond tok d (d + 1)) e ≡ (ltb (d + 1) e || (tok && ltb d e))
 over true d e =

@@ -1,7 +1,7 @@
-use Rattle.step.specs.inner.Step.{offSource}
+use Rattle.record_conditions.specs.inner.Step.{offSource}
 use borrow.Author.Needs.{needs}
-use Rattle.step.proofs.step.off_source.Statement.{statement}
-use Rattle.step.proofs.step.off_source.Tie as tie
+use Rattle.record_conditions.proofs.step.off_source.Statement.{statement}
+use Rattle.record_conditions.proofs.step.off_source.Tie as tie
 
 pub off-source-spec : {M : Type 1} → statement M
 unfolding offSource

@@ -1,8 +1,8 @@
 use borrow.Author.Tests.{lt-ltb, le-ltb}
-use Rattle.step.specs.inner.Step.{misfitOf}
+use Rattle.record_conditions.specs.inner.Step.{misfitOf}
 use borrow.Author.Needs.{needs}
-use Rattle.step.proofs.step.misfit.Statement.{statement}
-use Rattle.step.proofs.step.misfit.Tie as tie
+use Rattle.record_conditions.proofs.step.misfit.Statement.{statement}
+use Rattle.record_conditions.proofs.step.misfit.Tie as tie
 
 pub misfit-spec : {M : Type 1} → statement M
 unfolding misfitOf

@@ -1,7 +1,7 @@
-use Rattle.step.specs.inner.Step.{after}
+use Rattle.record_conditions.specs.inner.Step.{after}
 use borrow.Author.Needs.{needs}
-use Rattle.step.proofs.step.after.Statement.{statement}
-use Rattle.step.proofs.step.after.Tie as tie
+use Rattle.record_conditions.proofs.step.after.Statement.{statement}
+use Rattle.record_conditions.proofs.step.after.Tie as tie
 
 pub after-spec : {M : Type 1} → statement M
 unfolding after

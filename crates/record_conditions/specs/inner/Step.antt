@@ -7,7 +7,7 @@ use lib.Dec.{ltb, eqb}
 use Rattle.records.specs.declared.record.Rec.{Rec}
 use Rattle.records.specs.Kinds.{isNode, isToken}
 use Rattle.records.specs.Table.{kindAt, depthAt}
-use Rattle.step.specs.declared.step.Known.{Known}
+use Rattle.record_conditions.specs.declared.step.Known.{Known}
 use Rattle.conditions.specs.Conditions.{mostDepth, lastEnd}
 
 -- how deep the record after one of kind k and depth d may be: one below a node, and no deeper than a token

@@ -1,8 +1,8 @@
 use borrow.Author.Tests.{eq-eqb, ne-eqb}
-use Rattle.step.specs.inner.Step.{outOfPlace}
+use Rattle.record_conditions.specs.inner.Step.{outOfPlace}
 use borrow.Author.Needs.{needs}
-use Rattle.step.proofs.step.out_of_place.Statement.{statement}
-use Rattle.step.proofs.step.out_of_place.Tie as tie
+use Rattle.record_conditions.proofs.step.out_of_place.Statement.{statement}
+use Rattle.record_conditions.proofs.step.out_of_place.Tie as tie
 
 pub out-of-place-spec : {M : Type 1} → statement M
 unfolding outOfPlace

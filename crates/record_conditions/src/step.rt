@@ -12,7 +12,7 @@ ghost use Prim.Native.Nat.{_<_};
 ghost use lib.Dec.{eqb};
 ghost use Rattle.lent.specs.Numbers.{wordLimit};
 ghost use Rattle.records.specs.Table.{count, parentAt};
-ghost use Rattle.step.specs.inner.Step.{after, strange, outOfPlace, offSource, misfitOf};
+ghost use Rattle.record_conditions.specs.inner.Step.{after, strange, outOfPlace, offSource, misfitOf};
 
 // The most depth.
 pub const MOST_DEPTH: usize = 63;

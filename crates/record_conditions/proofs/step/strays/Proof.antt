@@ -1,6 +1,6 @@
 use borrow.Author.Needs.{needs}
-use Rattle.step.proofs.step.strays.Statement.{statement}
-use Rattle.step.proofs.step.strays.Tie as tie
+use Rattle.record_conditions.proofs.step.strays.Statement.{statement}
+use Rattle.record_conditions.proofs.step.strays.Tie as tie
 
 pub strays-spec : {M : Type 1} → statement M
 strays-spec =
