@@ -1,2 +1,4 @@
 // The records above a record.
+#![tactic(auto)]
+
 pub mod above;

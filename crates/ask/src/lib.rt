@@ -1,5 +1,7 @@
 // Every question by its name, over all that a question can be asked. Demands 1 and 2, and that every number fits 32 bits, are the contract of `ask`:
 // stated once over all questions, and proved from the promises of the questions that it hands on to, and from nothing else of them.
+#![tactic(auto)]
+
 ghost use Rattle.demands.specs.Questions.{asked};
 ghost use Rattle.demands.specs.Demand1.{Demand1};
 ghost use Rattle.demands.specs.Demand2.{Demand2};

@@ -1,4 +1,6 @@
 // Everything at a cursor in one call, held against the single questions: proved from the promise of the call that it hands on to, and from nothing else.
+#![tactic(auto)]
+
 ghost use Rattle.everything.specs.Everything.{buffers};
 ghost use Rattle.demands.specs.AtOnce.{AtOnce};
 

@@ -14,7 +14,7 @@ use records::kinds::{COLUMN_ALIAS, COLUMN_LIST, EXPRESSION_LIST, WITH_EXPRESSION
 use records::record::{count_of, kind_at};
 
 // What binds the names of a list: a WITH item or a column alias.
-#[derive(Drop)]
+#[derive(Clone, Copy)]
 pub enum Binder {
     Item,
     Alias,

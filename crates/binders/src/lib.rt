@@ -1,2 +1,4 @@
 // What WITH items and column aliases bind.
+#![tactic(auto)]
+
 pub mod binders;

@@ -18,14 +18,14 @@ use records::record::{count_of, kind_at};
 use table::check::check;
 
 // The opener that a message speaks of.
-#[derive(Drop)]
+#[derive(Clone, Copy)]
 pub enum Hint {
     Opener(u32),
     NoOpener,
 }
 
 // The reply to the question for the hint.
-#[derive(Drop)]
+#[derive(Clone, Copy)]
 pub enum HintReply {
     Hinted(Hint),
     // the refusal's number and its detail

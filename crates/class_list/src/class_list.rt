@@ -16,7 +16,7 @@ use records::kinds::LAST_NODE;
 use records::record::{count_of, end_at, kind_at, parent_at, start_at};
 
 // An entry of the list: where a token stands, and the number of its class.
-#[derive(Drop)]
+#[derive(Clone, Copy)]
 pub struct ClassedToken {
     pub start: usize,
     pub end: usize,

@@ -1,2 +1,4 @@
 // The class of a token.
+#![tactic(auto)]
+
 pub mod token_class;

@@ -11,7 +11,7 @@ use records::kinds::{
 use text::text::text_of;
 
 // The classes by document 01's numbers, 0 to 9, and none.
-#[derive(Drop)]
+#[derive(Clone, Copy)]
 pub enum TokenClass {
     Keyword,
     Function,

@@ -8,7 +8,7 @@ use records::kinds::{FROM_CLAUSE, JOIN_CLAUSE, SELECT_CLAUSE, SUBQUERY_EXPRESSIO
 use records::record::{count_of, kind_at};
 
 // A list of a scope: which one is asked for.
-#[derive(Drop)]
+#[derive(Clone, Copy)]
 pub enum ScopeList {
     WithNames,
     TableAliases,

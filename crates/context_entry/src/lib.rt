@@ -1,2 +1,4 @@
 // The context at a cursor as C gets it: an entry.
+#![tactic(auto)]
+
 pub mod context_entry;

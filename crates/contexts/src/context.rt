@@ -6,7 +6,7 @@ use records::range::{ABSENT, Range};
 use tokens::last_token::Name;
 
 // What is being typed.
-#[derive(Drop)]
+#[derive(Clone, Copy)]
 pub enum CursorContext {
     SelectExpression,
     TableReference {
@@ -30,7 +30,7 @@ pub enum CursorContext {
 }
 
 // The reply to the question for the context.
-#[derive(Drop)]
+#[derive(Clone, Copy)]
 pub enum ContextReply {
     Context(CursorContext),
     // the refusal's number and its detail
@@ -38,14 +38,14 @@ pub enum ContextReply {
 }
 
 // What a rule answers: it gives a context, or the next rule is asked.
-#[derive(Drop)]
+#[derive(Clone, Copy)]
 pub enum Answer {
     GoOn,
     Given(CursorContext),
 }
 
 // A context as numbers: its own, its name's range and its argument's index.
-#[derive(Drop)]
+#[derive(Clone, Copy)]
 pub struct Coded {
     pub number: usize,
     pub name: Range,

@@ -16,7 +16,7 @@ use records::record::{count_of, end_at, kind_at, start_at};
 use tokens::last_token::Name;
 
 // A clause of this kind, with its end.
-#[derive(Drop)]
+#[derive(Clone, Copy)]
 pub enum Clause {
     NoClause,
     Ends(usize, usize),

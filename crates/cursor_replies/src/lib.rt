@@ -1,4 +1,6 @@
 // The four lists at an offset as C has them: a list's reply is one number.
+#![tactic(auto)]
+
 ghost use Rattle.std.specs.Prelude.{length};
 ghost use Rattle.table.specs.Rules.{rules};
 ghost use Rattle.names.specs.Bindings.{binding_row};

@@ -11,7 +11,7 @@ use statement::statement::{Enclosing, find_enclosing_statement};
 use table::check::check;
 
 // The reply to the question for the cursor's root.
-#[derive(Drop)]
+#[derive(Clone, Copy)]
 pub enum RootReply {
     Root(u32),
     // the refusal's number and its detail

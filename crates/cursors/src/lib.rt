@@ -1,2 +1,4 @@
 // The contexts at all cursors of a shared page.
+#![tactic(auto)]
+
 pub mod cursors;

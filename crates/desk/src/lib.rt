@@ -1,5 +1,7 @@
 // The C boundary: every question over numbers and byte slices, a slice being a pointer and a length. The reply is one number:
 // its low 32 bits are the refusal's number, 0 where the question is answered, and its high 32 bits the detail or the answer.
+#![tactic(auto)]
+
 pub mod at_cursor;
 
 ghost use Rattle.std.specs.Prelude.{◌≡◌, length};

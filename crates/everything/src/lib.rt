@@ -1,2 +1,4 @@
 // Everything at a cursor in one call.
+#![tactic(auto)]
+
 pub mod everything;

@@ -1,4 +1,6 @@
 // glance's whole work, from input bytes to output bytes: what the program prints is proved here.
+#![tactic(auto)]
+
 ghost use Rattle.std.specs.Prelude.{◌≡◌, ◌++◌, ◌≤◌, length, drop};
 ghost use Rattle.frame.specs.Glance.{glanced};
 

@@ -1,2 +1,4 @@
 // A function's name.
+#![tactic(auto)]
+
 pub mod function_name;

@@ -1,2 +1,4 @@
 // The opener that a message speaks of.
+#![tactic(auto)]
+
 pub mod hint;

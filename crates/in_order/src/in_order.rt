@@ -37,7 +37,7 @@ fn span_fits(start: usize, end: usize, last: usize) -> bool
 
 // What a record is expected to be, if those before it fit: how deep it may be, and is unless it goes up; the node that it then carries; and no earlier than the
 // last token's end.
-#[derive(Drop)]
+#[derive(Clone, Copy)]
 struct Expected {
     fits: bool,
     limit: usize,

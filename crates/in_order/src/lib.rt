@@ -1,2 +1,4 @@
 // The fast check: is every record in order?
+#![tactic(auto)]
+
 pub mod in_order;

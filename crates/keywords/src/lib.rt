@@ -1,2 +1,4 @@
 // The word list of `KEYWORDS` and its test.
+#![tactic(auto)]
+
 pub mod keywords;

@@ -6,7 +6,7 @@ ghost use Rattle.lent.specs.Lists.{farthest, put};
 use crate::number::{NUMBER_BYTES, put_number};
 
 // The reply to a question for a list.
-#[derive(Drop)]
+#[derive(Clone, Copy)]
 pub enum Listed {
     // how many entries were written
     Entries(u32),

@@ -4,7 +4,7 @@
 pub const NO_ROOM: u32 = 7;
 
 // What is said of a table, or of a question.
-#[derive(Drop)]
+#[derive(Clone, Copy)]
 pub enum Verdict {
     Admitted,
     // the refusal's number and its detail

@@ -29,7 +29,7 @@ pub const RECORD_DIGITS: usize = 28;
 pub const TABLE_ROOM: usize = MOST_LINES * RECORD_BYTES;
 
 // What the reading of the records' lines finds.
-#[derive(Drop)]
+#[derive(Clone, Copy)]
 pub enum Records {
     // the first faulty line
     Faulty(u32),
@@ -38,7 +38,7 @@ pub enum Records {
 }
 
 // What the reading of a frame finds.
-#[derive(Drop)]
+#[derive(Clone, Copy)]
 pub enum Frame {
     // the first faulty line
     Unreadable(u32),

@@ -1,2 +1,4 @@
 // One list of a root.
+#![tactic(auto)]
+
 pub mod lists;

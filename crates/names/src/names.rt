@@ -13,7 +13,7 @@ use records::record::{Rec, count_of, record_at};
 use text::text::{says, text_of};
 
 // A name that a WITH item, a table alias or a column alias binds.
-#[derive(Drop)]
+#[derive(Clone, Copy)]
 pub struct NameBinding {
     pub token: Range,
     pub name: Range,
@@ -21,7 +21,7 @@ pub struct NameBinding {
 }
 
 // What a node binds.
-#[derive(Drop)]
+#[derive(Clone, Copy)]
 pub enum Bound {
     Unnamed,
     Named(NameBinding),

@@ -11,7 +11,7 @@ use records::kinds::{
 // What the path's rules need of it. The deepest node so far, with its kind, and of those above it the deepest whose rule
 // applies, with the rule's number; the deepest statement and the deepest subquery, as the record's number plus one, 0 for
 // none; and whether a JoinConstraint is on it.
-#[derive(Drop)]
+#[derive(Clone, Copy)]
 pub struct Gathered {
     pub node: usize,
     pub kind: usize,

@@ -1,2 +1,4 @@
 // What the rules of the path's nodes give.
+#![tactic(auto)]
+
 pub mod rules;

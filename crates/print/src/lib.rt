@@ -1,2 +1,4 @@
 // What glance prints, line by line.
+#![tactic(auto)]
+
 pub mod printed;

@@ -1,2 +1,4 @@
 // A name with and without its quotes.
+#![tactic(auto)]
+
 pub mod quotes;

@@ -7,7 +7,7 @@ use records::range::{Range, no_range, span_of};
 use records::record::Rec;
 
 // A name's two ranges: with its quotes, and without.
-#[derive(Drop)]
+#[derive(Clone, Copy)]
 pub struct NameRanges {
     pub outer: Range,
     pub inner: Range,

@@ -15,7 +15,7 @@ pub const MOST_DEPTH: usize = 63;
 pub const DEPTHS: usize = MOST_DEPTH + 2;
 
 // What is known before a record: how deep it may be, and the end of the last token.
-#[derive(Drop)]
+#[derive(Clone, Copy)]
 pub struct Known {
     pub deepest: usize,
     pub end: usize,

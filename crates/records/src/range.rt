@@ -12,7 +12,7 @@ use lent::number::WORD_LIMIT;
 pub const ABSENT: usize = WORD_LIMIT - 1;
 
 // The bytes of the source from start up to end.
-#[derive(Drop)]
+#[derive(Clone, Copy)]
 pub struct Range {
     pub start: usize,
     pub end: usize,

@@ -9,7 +9,7 @@ use lent::number::word_at;
 pub const RECORD_BYTES: usize = 20;
 
 // A record with its number. The number goes with it however deep the part is that it was read from.
-#[derive(Drop)]
+#[derive(Clone, Copy)]
 pub struct Rec {
     pub index: usize,
     pub kind: usize,

@@ -13,7 +13,7 @@ use quotes::quotes::{NameRanges, name_of, no_name};
 use records::record::{count_of, record_at};
 
 // A table reference in FROM or JOIN.
-#[derive(Drop)]
+#[derive(Clone, Copy)]
 pub struct TableRef {
     pub record: usize,
     pub database: NameRanges,
@@ -22,7 +22,7 @@ pub struct TableRef {
 }
 
 // The pending reference of a table reading.
-#[derive(Drop)]
+#[derive(Clone, Copy)]
 pub enum Pending {
     Nothing,
     Held(TableRef),

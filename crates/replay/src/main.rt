@@ -1,5 +1,7 @@
 // Replays a stored list of frames, each with what the Rust answers to it in glance's words, and says how many agree. A stored frame is two
 // numbers of eight hexadecimal digits, the bytes of the input and those of the answer, then LF, the input and the answer.
+#![tactic(auto)]
+
 use frame::{TEXT_ROOM, glance};
 use libc::{STDIN_FILENO, STDOUT_FILENO};
 use lines::input::number;
@@ -12,7 +14,7 @@ const HEAD: usize = 17;
 const ROOM: usize = 65536;
 
 // What is found at the next frame of the list.
-#[derive(Drop)]
+#[derive(Clone, Copy)]
 enum Outcome {
     Agrees,
     Differs,

@@ -1,2 +1,4 @@
 // The answers to a frame as text.
+#![tactic(auto)]
+
 pub mod output;

@@ -1,2 +1,4 @@
 // Whether the buffers of the one call have room.
+#![tactic(auto)]
+
 pub mod rooms;

@@ -9,7 +9,7 @@ use names::bindings::BINDING_BYTES;
 use references::references::REFERENCE_BYTES;
 
 // How many entries each of the four lists has.
-#[derive(Drop)]
+#[derive(Clone, Copy)]
 pub struct Counts {
     pub names: u32,
     pub aliases: u32,

@@ -1,4 +1,6 @@
 // The four lists of a root as C has them: a list's reply is one number.
+#![tactic(auto)]
+
 ghost use Rattle.std.specs.Prelude.{length};
 ghost use Rattle.table.specs.Rules.{root_rules};
 ghost use Rattle.names.specs.Bindings.{binding_row};

@@ -1,2 +1,4 @@
 // Where each cursor's search among record 0's children may begin.
+#![tactic(auto)]
+
 pub mod starts;

@@ -1,2 +1,4 @@
 // The statement that encloses an offset.
+#![tactic(auto)]
+
 pub mod statement;

@@ -15,14 +15,14 @@ use records::record::{count_of, depth_at, end_at, kind_at, start_at};
 use table::check::check;
 
 // The record that a search finds.
-#[derive(Drop)]
+#[derive(Clone, Copy)]
 pub enum Enclosing {
     Outside,
     Record(u32),
 }
 
 // The reply to the question for the enclosing statement.
-#[derive(Drop)]
+#[derive(Clone, Copy)]
 pub enum StatementReply {
     Statement(u32),
     NoStatement,

@@ -19,7 +19,7 @@ use references::pending::Pending;
 use references::references::put_reference;
 
 // What a table reading writes.
-#[derive(Drop)]
+#[derive(Clone, Copy)]
 pub enum Reads {
     Aliases,
     References,

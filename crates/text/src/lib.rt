@@ -1,2 +1,4 @@
 // The text of a token, and when it is a word.
+#![tactic(auto)]
+
 pub mod text;

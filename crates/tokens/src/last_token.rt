@@ -10,14 +10,14 @@ use records::record::{end_at, start_at};
 use text::text::{says, text_of};
 
 // A name's range, or none.
-#[derive(Drop)]
+#[derive(Clone, Copy)]
 pub enum Name {
     Nameless,
     Named(Range),
 }
 
 // The last token of a reading, and the one before it.
-#[derive(Drop)]
+#[derive(Clone, Copy)]
 pub struct LastTwo {
     pub last: Name,
     pub before: Name,

@@ -1,2 +1,4 @@
 // What a token or a node makes of a reading.
+#![tactic(auto)]
+
 pub mod turns;

@@ -1,0 +1,10 @@
+use Rattle.binders.specs.inner.Binders.{binder_kind}
+use Rattle.binders.proofs.binders.is_binder.Goals as goal
+
+pub returns-in-Item : goal.returns-in-Item
+unfolding binder_kind
+returns-in-Item c = rw c.enum_told-1.given.1
+
+pub returns-in-Alias : goal.returns-in-Alias
+unfolding binder_kind
+returns-in-Alias c = rw c.enum_told-in-Alias-1.given.1

@@ -1,0 +1,12 @@
+use Rattle.cursor.specs.CursorContext.{starts_after}
+use Rattle.tokens.specs.LastToken.{is_text}
+use borrow.Author.Rules.{rules}
+use Rattle.cursor.proofs.cursor_context.starts_after.Goals as goal
+
+pub returns-in-Nameless : goal.returns-in-Nameless
+unfolding starts_after is_text
+returns-in-Nameless c = search rules
+
+pub returns-in-Named : goal.returns-in-Named
+unfolding starts_after is_text
+returns-in-Named c = rw (c.last-1.given.1, ← c.text_of.ensures) c.is_byte.ensures

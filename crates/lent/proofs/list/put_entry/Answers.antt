@@ -1,0 +1,19 @@
+use Rattle.lent.proofs.Writes.{putting-start, putting-next, putting-end, putting-none}
+use Prim.Native.Nat.{◌-◌}
+use native.Mathlib.Omega.{arith}
+use Rattle.lent.proofs.list.put_entry.Goals as goal
+
+pub returns-then-out-next : goal.returns-then-out-next
+returns-then-out-next c = (putting-none _ _ _ (omega arith), omega arith)
+
+pub loop-i-init : goal.loop-i-init
+loop-i-init c = (omega arith, putting-start _ _ _)
+
+pub loop-i-preserved : goal.loop-i-preserved
+loop-i-preserved c = (omega arith, putting-next _ _ _ c.loop-i.invariant.1 (omega arith) c.put_number.ensures)
+
+pub shape_of-out : goal.shape_of-out
+shape_of-out c = c.loop-i.invariant.0.1
+
+pub returns : goal.returns
+returns c = (putting-end _ _ _ c.loop-i.invariant.1 (omega arith) (omega arith), omega arith)

@@ -1,0 +1,19 @@
+use Rattle.lines.proofs.Reading.{fails, passes, digits-next, digits-fail, digits-end}
+use mathlib.Core.Path.{refl, sym, ◌∙◌}
+use Prim.Native.Nat.{◌-◌}
+use native.Mathlib.Omega.{arith}
+use Rattle.lines.proofs.input.all_digits.Goals as goal
+
+pub loop-i-init : goal.loop-i-init
+loop-i-init c = (omega arith, refl)
+
+pub returns-then-not-is_digit : goal.returns-then-not-is_digit
+returns-then-not-is_digit c =
+    let l = c in digits-fail l.before.before.args.bytes.now l.loop.i l.loop.invariant.1 (omega arith) (sym c.is_digit.ensures ∙ fails _ c.if-not-is_digit.true)
+
+pub loop-i-preserved : goal.loop-i-preserved
+loop-i-preserved c =
+    let l = c in (omega arith, digits-next l.before.before.args.bytes.now l.loop.i l.loop.invariant.1 (omega arith) (sym c.is_digit.ensures ∙ passes _ c.if-not-is_digit.false))
+
+pub returns : goal.returns
+returns c = let l = c in digits-end l.before.before.args.bytes.now l.loop.i l.loop.invariant.1 (omega arith)

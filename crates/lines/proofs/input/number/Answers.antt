@@ -1,0 +1,23 @@
+use Rattle.lines.proofs.Reading.{number-next, number-end, grown, roomy}
+use mathlib.Core.Path.{refl}
+use Prim.Native.Nat.{◌-◌}
+use native.Mathlib.Omega.{arith}
+use Rattle.lines.proofs.input.number.Goals as goal
+
+pub loop-i-init : goal.loop-i-init
+loop-i-init c = (omega arith, omega arith, refl)
+
+pub overflow_mul-v : goal.overflow_mul-v
+overflow_mul-v c = omega (arith, roomy c.loop-i.v c.loop-i.i c.loop-i.invariant.1 (omega arith))
+
+pub overflow_add-v : goal.overflow_add-v
+overflow_add-v c =
+    let l = c in omega (arith, roomy l.loop.v l.loop.i l.loop.invariant.1 (omega arith), c.value.ensures.1)
+
+pub loop-i-preserved : goal.loop-i-preserved
+loop-i-preserved c =
+    let l = c in (omega arith, grown l.loop.v _ l.loop.i l.loop.invariant.1 c.value.ensures.1, number-next l.before.before.args.digits.now l.loop.i l.loop.v l.loop.invariant.2 (omega arith) c.value.ensures.0)
+
+pub returns : goal.returns
+returns c =
+    let l = c in number-end l.before.before.args.digits.now l.loop.i l.loop.v l.loop.invariant.2 (omega arith)

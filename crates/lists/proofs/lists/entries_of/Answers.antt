@@ -1,0 +1,19 @@
+use Rattle.lists.specs.inner.Rows.{width}
+use native.Mathlib.Omega.{arith}
+use Rattle.lists.proofs.lists.entries_of.Goals as goal
+
+pub returns-in-WithNames : goal.returns-in-WithNames
+unfolding width
+returns-in-WithNames c = (rw c.enum_told-1.given.1, omega arith)
+
+pub returns-in-TableAliases : goal.returns-in-TableAliases
+unfolding width
+returns-in-TableAliases c = (rw c.enum_told-in-TableAliases-1.given.1, omega arith)
+
+pub returns-in-ColumnAliases : goal.returns-in-ColumnAliases
+unfolding width
+returns-in-ColumnAliases c = (rw c.enum_told-in-ColumnAliases-1.given.1, omega arith)
+
+pub returns-in-TableRefs : goal.returns-in-TableRefs
+unfolding width
+returns-in-TableRefs c = (rw c.enum_told-in-TableRefs-1.given.1, omega arith)

@@ -1,0 +1,6 @@
+use Rattle.lists.proofs.ListLaws.{question, column-rows}
+use Rattle.names.specs.Bindings.{binding_row}
+use Rattle.offers.proofs.offers.column_aliases_at.Goals as goal
+
+pub returns : goal.returns
+returns c = question binding_row _ _ _ (column-rows _ _ _) c.offer.ensures

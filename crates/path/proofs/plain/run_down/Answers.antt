@@ -1,0 +1,34 @@
+use Rattle.path.proofs.Runs.{run-start, run_on}
+use mathlib.Core.Path.{sym, ◌∙◌}
+use Prim.Native.Nat.{◌-◌}
+use native.Mathlib.Omega.{arith}
+use borrow.Author.Tests.{not-false}
+use Rattle.path.proofs.plain.run_down.Goals as goal
+
+pub returns-then-above-le-LAST_RULED : goal.returns-then-above-le-LAST_RULED
+returns-then-above-le-LAST_RULED c = run-start (omega arith)
+
+pub returns-then-kind_at-le-LAST_RULED : goal.returns-then-kind_at-le-LAST_RULED
+returns-then-kind_at-le-LAST_RULED c = run-start (omega arith)
+
+pub loop-i-init : goal.loop-i-init
+loop-i-init c = (omega arith, run-start (omega arith))
+
+pub overflow_add-i : goal.overflow_add-i
+overflow_add-i c = omega (arith, c.loop-i.invariant.1.within)
+
+pub returns-then-depth_at-k : goal.returns-then-depth_at-k
+returns-then-depth_at-k c = c.loop-i.invariant.1
+
+pub returns-then-kind_at-le-LAST_RULED-2 : goal.returns-then-kind_at-le-LAST_RULED-2
+returns-then-kind_at-le-LAST_RULED-2 c = c.loop-i.invariant.1
+
+pub returns-then-not-is_holder : goal.returns-then-not-is_holder
+returns-then-not-is_holder c = c.loop-i.invariant.1
+
+pub loop-i-preserved : goal.loop-i-preserved
+loop-i-preserved c =
+    (omega arith, run_on c.loop-i.invariant.1 (omega arith) (omega arith) (omega arith) (sym c.is_holder.ensures ∙ not-false _ c.if-not-is_holder.false))
+
+pub returns : goal.returns
+returns c = c.loop-i.invariant.1

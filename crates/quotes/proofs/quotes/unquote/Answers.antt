@@ -1,0 +1,17 @@
+use Rattle.quotes.proofs.QuoteLaws.{unquoted-short, unquoted-pair, unquoted-whole}
+use native.Mathlib.Omega.{arith}
+use Rattle.quotes.proofs.quotes.unquote.Goals as goal
+
+pub returns-then-end-start : goal.returns-then-end-start
+returns-then-end-start c = unquoted-short _ _ _ (omega arith)
+
+pub returns-then-end-start-lt2 : goal.returns-then-end-start-lt2
+returns-then-end-start-lt2 c = unquoted-short _ _ _ (omega arith)
+
+pub returns-then-is_mark-last : goal.returns-then-is_mark-last
+returns-then-is_mark-last c =
+    unquoted-pair _ _ _ (omega arith) c.byte_at-mark.ensures c.byte_at-last.ensures c.is_mark.ensures c.if-is_mark-last.true
+
+pub returns-else-is_mark-last : goal.returns-else-is_mark-last
+returns-else-is_mark-last c =
+    unquoted-whole _ _ _ (omega arith) c.byte_at-mark.ensures c.byte_at-last.ensures c.is_mark.ensures c.if-is_mark-last.false

@@ -1,0 +1,6 @@
+use Rattle.lists.proofs.ListLaws.{question, column-rows}
+use Rattle.names.specs.Bindings.{binding_row}
+use Rattle.scope.proofs.scope.column_aliases.Goals as goal
+
+pub returns : goal.returns
+returns c = question binding_row _ _ _ (column-rows _ _ _) c.list_of.ensures

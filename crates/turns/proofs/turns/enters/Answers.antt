@@ -1,0 +1,10 @@
+use Rattle.tokens.specs.inner.Turns.{enters_for}
+use Rattle.turns.proofs.turns.enters.Goals as goal
+
+pub returns-in-LastToken : goal.returns-in-LastToken
+unfolding enters_for
+returns-in-LastToken c = rw c.enum_told-1.given.1
+
+pub returns-in-ArgumentIndex : goal.returns-in-ArgumentIndex
+unfolding enters_for
+returns-in-ArgumentIndex c = rw c.enum_told-in-ArgumentIndex-1.given.1
