@@ -9,11 +9,11 @@ loop-i-init c = (omega arith, refl)
 
 pub returns-then-not-is_digit : goal.returns-then-not-is_digit
 returns-then-not-is_digit c =
-    let l = c in digits-fail l.before.before.args.bytes.now l.loop.i l.loop.invariant.1 (omega arith) (sym c.is_digit.ensures ∙ fails _ c.if-not-is_digit.true)
+    digits-fail c.args.bytes.now c.loop-i.i c.loop-i.invariant.1 (omega arith) (sym c.is_digit.ensures ∙ c.if-not-is_digit.true)
 
 pub loop-i-preserved : goal.loop-i-preserved
 loop-i-preserved c =
-    let l = c in (omega arith, digits-next l.before.before.args.bytes.now l.loop.i l.loop.invariant.1 (omega arith) (sym c.is_digit.ensures ∙ passes _ c.if-not-is_digit.false))
+    (omega arith, digits-next c.args.bytes.now c.loop-i.i c.loop-i.invariant.1 (omega arith) (sym c.is_digit.ensures ∙ c.if-not-is_digit.false))
 
 pub returns : goal.returns
-returns c = let l = c in digits-end l.before.before.args.bytes.now l.loop.i l.loop.invariant.1 (omega arith)
+returns c = digits-end c.args.bytes.now c.loop-i.i c.loop-i.invariant.1 (omega arith)

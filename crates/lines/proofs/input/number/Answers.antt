@@ -11,13 +11,11 @@ pub overflow_mul-v : goal.overflow_mul-v
 overflow_mul-v c = omega (arith, roomy c.loop-i.v c.loop-i.i c.loop-i.invariant.1 (omega arith))
 
 pub overflow_add-v : goal.overflow_add-v
-overflow_add-v c =
-    let l = c in omega (arith, roomy l.loop.v l.loop.i l.loop.invariant.1 (omega arith), c.value.ensures.1)
+overflow_add-v c = omega (arith, roomy c.loop-i.v c.loop-i.i c.loop-i.invariant.1 (omega arith), c.value.ensures.1)
 
 pub loop-i-preserved : goal.loop-i-preserved
 loop-i-preserved c =
-    let l = c in (omega arith, grown l.loop.v _ l.loop.i l.loop.invariant.1 c.value.ensures.1, number-next l.before.before.args.digits.now l.loop.i l.loop.v l.loop.invariant.2 (omega arith) c.value.ensures.0)
+    (omega arith, grown c.loop-i.v _ c.loop-i.i c.loop-i.invariant.1 c.value.ensures.1, number-next c.args.digits.now c.loop-i.i c.loop-i.v c.loop-i.invariant.2 (omega arith) c.value.ensures.0)
 
 pub returns : goal.returns
-returns c =
-    let l = c in number-end l.before.before.args.digits.now l.loop.i l.loop.v l.loop.invariant.2 (omega arith)
+returns c = number-end c.args.digits.now c.loop-i.i c.loop-i.v c.loop-i.invariant.2 (omega arith)

@@ -28,7 +28,7 @@ returns-then-not-is_holder c = c.loop-i.invariant.1
 
 pub loop-i-preserved : goal.loop-i-preserved
 loop-i-preserved c =
-    (omega arith, run_on c.loop-i.invariant.1 (omega arith) (omega arith) (omega arith) (sym c.is_holder.ensures ∙ not-false _ c.if-not-is_holder.false))
+    (omega arith, run_on c.loop-i.invariant.1 (omega arith) (omega arith) (omega arith) (sym c.is_holder.ensures ∙ c.if-not-is_holder.false))
 
 pub returns : goal.returns
 returns c = c.loop-i.invariant.1

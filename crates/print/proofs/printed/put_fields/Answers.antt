@@ -9,11 +9,11 @@ loop-i-init c = (omega arith, rest-start _ _ _ _ _ (fields-start _ _ _) refl)
 
 pub loop-i-preserved : goal.loop-i-preserved
 loop-i-preserved c =
-    let a = c.args in let l = c in (omega arith, rest-turn _ _ (fields-turn a.list.now a.from a.n l.loop.i (omega arith)) (rw c.word_at.ensures.0 at c.put_field-next.ensures.0) l.loop.invariant.1)
+    let a = c.args in (omega arith, rest-turn _ _ (fields-turn a.list.now a.from a.n c.loop-i.i (omega arith)) (rw c.word_at.ensures.0 at c.put_field-next.ensures.0) c.loop-i.invariant.1)
 
 pub shape_of-out : goal.shape_of-out
 shape_of-out c = c.loop-i.invariant.0.2
 
 pub returns : goal.returns
 returns c =
-    let l = c in let a = l.before.before.before.args in (rest_end _ (fields-none a.list.now a.from a.n l.loop.i (omega arith)) l.loop.invariant.1, omega arith)
+    let a = c.args in (rest_end _ (fields-none a.list.now a.from a.n c.loop-i.i (omega arith)) c.loop-i.invariant.1, omega arith)

@@ -24,4 +24,4 @@ shape_of-out c = c.loop-left.invariant.0.1
 
 pub returns : goal.returns
 returns c =
-    let l = c in let a = l.before.before.before.args in (rest_end _ (lists-none a.letter a.n (a.n + (a.m + a.m)) a.list.now l.loop.from l.loop.left (omega arith)) l.loop.invariant.1, omega arith)
+    let a = c.args in (rest_end _ (lists-none a.letter a.n (a.n + (a.m + a.m)) a.list.now c.loop-left.from c.loop-left.left (omega arith)) c.loop-left.invariant.1, omega arith)

@@ -12,10 +12,10 @@ loop-i-init c = ((omega arith, refl), rest-start _ _ _ _ _ refl (omega arith))
 
 pub loop-i-preserved : goal.loop-i-preserved
 loop-i-preserved c =
-    let l = c in let a = l.before.args in ((omega arith, simp length-set l.loop.invariant.0.1), rest-turn {zs = get_or a.text.now l.loop.i 0 ∷ []} _ _ (cut a.text.now l.loop.i (omega arith)) (record { bytes = refl; next = omega arith }) l.loop.invariant.1)
+    let a = c.args in ((omega arith, simp length-set c.loop-i.invariant.0.1), rest-turn {zs = get_or a.text.now c.loop-i.i 0 ∷ []} _ _ (cut a.text.now c.loop-i.i (omega arith)) (record { bytes = refl; next = omega arith }) c.loop-i.invariant.1)
 
 pub shape_of-out : goal.shape_of-out
 shape_of-out c = c.loop-i.invariant.0.1
 
 pub returns : goal.returns
-returns c = let l = c in rest_end _ (past l.before.args.text.now l.loop.i (omega arith)) l.loop.invariant.1
+returns c = rest_end _ (past c.args.text.now c.loop-i.i (omega arith)) c.loop-i.invariant.1

@@ -9,17 +9,17 @@ use Rattle.reader.proofs.read.read_frame.Goals as goal
 
 pub returns-then-not-is_source : goal.returns-then-not-is_source
 unfolding ReadFrame
-returns-then-not-is_source c = no_source _ c.line_end-end.ensures.0 c.is_source.ensures (fails _ c.if-not-is_source.true)
+returns-then-not-is_source c = no_source _ c.line_end-end.ensures.0 c.is_source.ensures c.if-not-is_source.true
 
 pub returns-then-not-is_numbers : goal.returns-then-not-is_numbers
 unfolding ReadFrame
 returns-then-not-is_numbers c =
-    no-offset _ c.line_end-end.ensures.0 c.is_source.ensures (passes _ c.if-not-is_source.false) _ c.after_line-rest.ensures c.line_end-offset_end.ensures.0 c.is_numbers.ensures (fails _ c.if-not-is_numbers.true)
+    no-offset _ c.line_end-end.ensures.0 c.is_source.ensures c.if-not-is_source.false _ c.after_line-rest.ensures c.line_end-offset_end.ensures.0 c.is_numbers.ensures c.if-not-is_numbers.true
 
 pub returns-then-records-eq0 : goal.returns-then-records-eq0
 unfolding ReadFrame
 returns-then-records-eq0 c =
-    no_record _ c.line_end-end.ensures.0 c.is_source.ensures (passes _ c.if-not-is_source.false) _ c.after_line-rest.ensures c.line_end-offset_end.ensures.0 c.is_numbers.ensures (passes _ c.if-not-is_numbers.false) _ c.after_line-records.ensures (omega arith)
+    no_record _ c.line_end-end.ensures.0 c.is_source.ensures c.if-not-is_source.false _ c.after_line-rest.ensures c.line_end-offset_end.ensures.0 c.is_numbers.ensures c.if-not-is_numbers.false _ c.after_line-records.ensures (omega arith)
 
 pub slice_bounds-read_source-end : goal.slice_bounds-read_source-end
 unfolding ReadFrame
@@ -27,7 +27,7 @@ slice_bounds-read_source-end c = simp length-take (omega arith)
 
 pub read_source-requires : goal.read_source-requires
 unfolding ReadFrame
-read_source-requires c = omega (arith, source-short _ (sym c.is_source.ensures ∙ passes _ c.if-not-is_source.false))
+read_source-requires c = omega (arith, source-short _ (sym c.is_source.ensures ∙ c.if-not-is_source.false))
 
 pub slice_bounds-number-end : goal.slice_bounds-number-end
 unfolding ReadFrame
@@ -35,12 +35,12 @@ slice_bounds-number-end c = simp length-take (omega arith)
 
 pub number-requires : goal.number-requires
 unfolding ReadFrame
-number-requires c = omega (arith, numbers-long 8 _ (sym c.is_numbers.ensures ∙ passes _ c.if-not-is_numbers.false))
+number-requires c = omega (arith, numbers-long 8 _ (sym c.is_numbers.ensures ∙ c.if-not-is_numbers.false))
 
 pub returns-in-Faulty : goal.returns-in-Faulty
 unfolding ReadFrame
 returns-in-Faulty c =
-    records-faulty _ _ c.line-1.given.1 c.read_records.ensures ∙ records-ruled _ c.line_end-end.ensures.0 c.is_source.ensures (passes _ c.if-not-is_source.false) _ c.after_line-rest.ensures c.line_end-offset_end.ensures.0 c.is_numbers.ensures (passes _ c.if-not-is_numbers.false) _ c.after_line-records.ensures (omega arith)
+    records-faulty _ _ c.line-1.given.1 c.read_records.ensures ∙ records-ruled _ c.line_end-end.ensures.0 c.is_source.ensures c.if-not-is_source.false _ c.after_line-rest.ensures c.line_end-offset_end.ensures.0 c.is_numbers.ensures c.if-not-is_numbers.false _ c.after_line-records.ensures (omega arith)
 
 pub returns-in-Read : goal.returns-in-Read
 unfolding ReadFrame
@@ -48,12 +48,12 @@ returns-in-Read c =
     let a = c.args in
     let e = c.line_end-end.result in
     let l = length-take-le e a.input.now c.line_end-end.ensures.1 in
-    let s = source-short _ (sym c.is_source.ensures ∙ passes _ c.if-not-is_source.false) in
+    let s = source-short _ (sym c.is_source.ensures ∙ c.if-not-is_source.false) in
     let q = records-read _ _ c.n-1.given.1 c.read_records.ensures in (
-      q.0 ∙ records-ruled _ c.line_end-end.ensures.0 c.is_source.ensures (passes _ c.if-not-is_source.false) _ c.after_line-rest.ensures c.line_end-offset_end.ensures.0 c.is_numbers.ensures (passes _ c.if-not-is_numbers.false) _ c.after_line-records.ensures (omega arith),
+      q.0 ∙ records-ruled _ c.line_end-end.ensures.0 c.is_source.ensures c.if-not-is_source.false _ c.after_line-rest.ensures c.line_end-offset_end.ensures.0 c.is_numbers.ensures c.if-not-is_numbers.false _ c.after_line-records.ensures (omega arith),
       omega arith,
-      ap (take (e / 2)) c.read_source.ensures ∙ source-front (take e a.input.now) _ (sym l) (omega arith) ∙ sym (frame-source _ c.line_end-end.ensures.0 c.is_source.ensures (passes _ c.if-not-is_source.false) _ c.after_line-rest.ensures c.line_end-offset_end.ensures.0 c.is_numbers.ensures (passes _ c.if-not-is_numbers.false) _ c.after_line-records.ensures),
-      c.number.ensures ∙ sym (frame-offset _ c.line_end-end.ensures.0 c.is_source.ensures (passes _ c.if-not-is_source.false) _ c.after_line-rest.ensures c.line_end-offset_end.ensures.0 c.is_numbers.ensures (passes _ c.if-not-is_numbers.false) _ c.after_line-records.ensures),
+      ap (take (e / 2)) c.read_source.ensures ∙ source-front (take e a.input.now) _ (sym l) (omega arith) ∙ sym (frame-source _ c.line_end-end.ensures.0 c.is_source.ensures c.if-not-is_source.false _ c.after_line-rest.ensures c.line_end-offset_end.ensures.0 c.is_numbers.ensures c.if-not-is_numbers.false _ c.after_line-records.ensures),
+      c.number.ensures ∙ sym (frame-offset _ c.line_end-end.ensures.0 c.is_source.ensures c.if-not-is_source.false _ c.after_line-rest.ensures c.line_end-offset_end.ensures.0 c.is_numbers.ensures c.if-not-is_numbers.false _ c.after_line-records.ensures),
       q.2,
-      q.3 ∙ sym (frame-table _ c.line_end-end.ensures.0 c.is_source.ensures (passes _ c.if-not-is_source.false) _ c.after_line-rest.ensures c.line_end-offset_end.ensures.0 c.is_numbers.ensures (passes _ c.if-not-is_numbers.false) _ c.after_line-records.ensures),
+      q.3 ∙ sym (frame-table _ c.line_end-end.ensures.0 c.is_source.ensures c.if-not-is_source.false _ c.after_line-rest.ensures c.line_end-offset_end.ensures.0 c.is_numbers.ensures c.if-not-is_numbers.false _ c.after_line-records.ensures),
     )

@@ -9,7 +9,7 @@ use Rattle.statement.proofs.statement.find_enclosing_statement.Goals as goal
 
 pub returns-then-not-spans : goal.returns-then-not-spans
 returns-then-not-spans c =
-    root-outside _ _ (rw (← c.start_at-start.ensures.0, ← c.end_at-end.ensures.0) (sym c.spans.ensures ∙ not-true c.spans.result c.if-not-spans.true))
+    root-outside _ _ (rw (← c.start_at-start.ensures.0, ← c.end_at-end.ensures.0) (sym c.spans.ensures ∙ c.if-not-spans.true))
 
 pub loop-i-init : goal.loop-i-init
 loop-i-init c =
@@ -17,7 +17,7 @@ loop-i-init c =
 
 pub returns-then-d-floor : goal.returns-then-d-floor
 returns-then-d-floor c =
-    root-holds _ _ (rw (← c.start_at-start.ensures.0, ← c.end_at-end.ensures.0) (sym c.spans.ensures ∙ not-false c.spans.result c.if-not-spans.false)) refl (c.given.ensures ∙ pass-past c.loop-i.invariant.1 (omega arith) (omega (arith, c.depth_at-d.ensures.0, c.if-d-floor.true)))
+    root-holds _ _ (rw (← c.start_at-start.ensures.0, ← c.end_at-end.ensures.0) (sym c.spans.ensures ∙ c.if-not-spans.false)) refl (c.given.ensures ∙ pass-past c.loop-i.invariant.1 (omega arith) (omega (arith, c.depth_at-d.ensures.0, c.if-d-floor.true)))
 
 pub loop-i-smaller-then-is_holder : goal.loop-i-smaller-then-is_holder
 loop-i-smaller-then-is_holder c = omega (arith, c.level_from-i-then-is_holder.ensures.on)
@@ -35,4 +35,4 @@ loop-i-preserved c =
 
 pub returns : goal.returns
 returns c =
-    root-holds _ _ (rw (← c.start_at-start.ensures.0, ← c.end_at-end.ensures.0) (sym c.spans.ensures ∙ not-false c.spans.result c.if-not-spans.false)) refl (c.given-2.ensures ∙ pass-end c.loop-i.invariant.1 (omega arith))
+    root-holds _ _ (rw (← c.start_at-start.ensures.0, ← c.end_at-end.ensures.0) (sym c.spans.ensures ∙ c.if-not-spans.false)) refl (c.given-2.ensures ∙ pass-end c.loop-i.invariant.1 (omega arith))

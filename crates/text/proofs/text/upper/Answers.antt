@@ -10,7 +10,7 @@ returns-in-97-to-122 c = let b = c.args.b in simp (le-leb 97 b (omega arith), le
 
 pub returns-in_default : goal.returns-in_default
 unfolding upper
-returns-in_default c = simp (lt-leb 97 c.args.b c.if-b-lt97.true)
+returns-in_default c = simp (lt-leb 97 c.args.b (omega arith))
 
 pub returns-in_default-2 : goal.returns-in_default-2
 unfolding upper

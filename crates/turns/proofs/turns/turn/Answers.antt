@@ -1,0 +1,19 @@
+use Rattle.tokens.specs.inner.Turns.{moved_to}
+use borrow.Author.Tests.{not-true, not-false}
+use native.Mathlib.Omega.{arith}
+use Rattle.turns.proofs.turns.turn.Goals as goal
+
+pub returns-then-not-counts : goal.returns-then-not-counts
+unfolding moved_to
+returns-then-not-counts c =
+    (rw (← c.counts.ensures, c.if-not-counts.true), omega arith, omega arith, omega arith)
+
+pub returns-in-LastToken : goal.returns-in-LastToken
+unfolding moved_to
+returns-in-LastToken c =
+    (rw (← c.counts.ensures, c.if-not-counts.false, c.enum_told-1.given.1), omega arith, omega arith, omega arith)
+
+pub returns-in-ArgumentIndex : goal.returns-in-ArgumentIndex
+unfolding moved_to
+returns-in-ArgumentIndex c =
+    (rw (← c.counts.ensures, c.if-not-counts.false, c.enum_told-in-ArgumentIndex-1.given.1, c.argue.ensures.0), c.argue.ensures.1, omega arith, omega arith)
