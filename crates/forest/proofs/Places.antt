@@ -47,6 +47,7 @@ all-node Q above r below rest a b c = (a, all_append Q (places (r ∷ above) bel
 
 all_of : (Q : Place → Type 0) (p : Place) (ps : List Place) → Memᴰ p ps → All Q ps → Q p
 unfolding All
+all_of Q p [] m a = elim m [ ]
 all_of Q p (q ∷ ps) (Memᴰ.head e) a = rw e a.0
 all_of Q p (q ∷ ps) (Memᴰ.tail m) a = all_of Q p ps m a.1
 

@@ -27,7 +27,7 @@ use Rattle.table.specs.Exactly.{Node, Token, Broken, broken-1, broken-2, broken-
 use Rattle.forest.specs.Sense.{Tidy, tree_of, Linked, in_order, by_depth, as_carried}
 use Rattle.lent.proofs.Cases.{lt-or-le, eq-or-not}
 use Rattle.forest.proofs.Laws.{node-or-token, level-shallow, level-deep, level-token, level-node, extent-deep, extent-stop, from_cons}
-use Rattle.table.proofs.Exactly.{admitted-exactly, bad-length, too_long, unlisted-kind, misplaced-first, misplaced-later, too-deep, bad-span, ends-after, clash, token→, token←}
+use Rattle.table.proofs.Exactly.{admitted-exactly, bad-length, too-long, unlisted-kind, misplaced-first, misplaced-later, too-deep, bad-span, ends-after, clash, token→, token←}
 
 -- ---- an admitted table is tidy
 
@@ -58,7 +58,7 @@ module _ (t : List ℕ) (n m : ℕ) (v : verdict t n m ≡ Admitted) where
   some = ⊎_elim (λ h. h) (λ h. absurd (filled (omega (arith, multiple)))) (lt-or-le 0 (count t))
 
   short : n ≤ most_source
-  short = ⊎_elim (λ h. absurd (none 2 0 (broken-2 refl refl ((too_long n m).1 (inl h))))) (λ h. h) (lt-or-le most_source n)
+  short = ⊎_elim (λ h. absurd (none 2 0 (broken-2 refl refl ((too-long n m).1 (inl h))))) (λ h. h) (lt-or-le most_source n)
 
   top : Node (kind_at t 0) × (depth_at t 0 ≡ 0)
   top = ⊎_elim (λ k. ⊎_elim (λ d. (k, d)) (λ d. bad (λ x. d x.1)) (eq-or-not (depth_at t 0) 0)) (λ k. bad (λ x. omega (arith, x.0))) (node-or-token (kind_at t 0))

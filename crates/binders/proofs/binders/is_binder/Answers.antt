@@ -3,8 +3,8 @@ use Rattle.binders.proofs.binders.is_binder.Goals as goal
 
 pub returns-in-Item : goal.returns-in-Item
 unfolding binder_kind
-returns-in-Item c = rw c.enum_told-1.given.1
+returns-in-Item c = rw c.in-Item.is
 
 pub returns-in-Alias : goal.returns-in-Alias
 unfolding binder_kind
-returns-in-Alias c = rw c.enum_told-in-Alias-1.given.1
+returns-in-Alias c = rw c.in-Alias.is

@@ -3,8 +3,8 @@ use Rattle.binders.proofs.binders.put_name.Goals as goal
 
 pub returns-in-Item : goal.returns-in-Item
 unfolding binds
-returns-in-Item c = rw c.enum_told-1.given.1 c.put_cte.ensures
+returns-in-Item c = rw c.in-Item.is c.put_cte.ensures
 
 pub returns-in-Alias : goal.returns-in-Alias
 unfolding binds
-returns-in-Alias c = rw c.enum_told-in-Alias-1.given.1 c.put_alias_name.ensures
+returns-in-Alias c = rw c.in-Alias.is c.put_alias_name.ensures

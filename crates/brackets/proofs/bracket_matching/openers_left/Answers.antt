@@ -11,14 +11,14 @@ pub list_openers-requires : goal.list_openers-requires
 unfolding verdict
 list_openers-requires c =
     let a = c.args in
-    let admitted = sym c.check.ensures ∙ c.enum_told-1.given.1 in
+    let admitted = sym c.check.ensures ∙ c.in-Admitted.is in
     let w = admitted-tidy a.table.now (length a.source.now) 0 admitted in
     (w.some, w.few, admitted-stacks a.table.now (length a.source.now) 0 admitted)
 
 pub returns-in-Refused : goal.returns-in-Refused
 unfolding verdict
-returns-in-Refused c = list-refused opener_row _ _ _ (sym c.k-1.given.1 ∙ c.check.ensures)
+returns-in-Refused c = list-refused opener_row _ _ _ (sym c.in-Refused.is ∙ c.check.ensures)
 
 pub returns-in-Admitted : goal.returns-in-Admitted
 unfolding verdict
-returns-in-Admitted c = list-admitted opener_row _ _ _ (sym c.enum_told-1.given.1 ∙ c.check.ensures) c.list_openers.ensures
+returns-in-Admitted c = list-admitted opener_row _ _ _ (sym c.in-Admitted.is ∙ c.check.ensures) c.list_openers.ensures

@@ -8,7 +8,7 @@ pub loop-j-init : goal.loop-j-init
 loop-j-init c = (omega arith, opener-none c.args.stack.now _)
 
 pub overflow_cast-stack : goal.overflow_cast-stack
-overflow_cast-stack c = omega (arith, c.shared_slice_known-in-loop-j-1.given c.loop-j.j)
+overflow_cast-stack c = omega (arith, c.type_inv.stack c.loop-j.j)
 
 pub slice_bounds-put_entry-end : goal.slice_bounds-put_entry-end
 slice_bounds-put_entry-end c = refl

@@ -8,9 +8,8 @@ loop-i-init c = (omega arith, stack-first _ _ c.requires.3)
 
 pub loop-i-preserved : goal.loop-i-preserved
 loop-i-preserved c =
-    let l = c in
     let s = c.stretch_of-part.ensures in
-    (omega arith, stack-child _ _ _ s.2 s.3 s.0 c.count_of-i.ensures c.collect_brackets-top.ensures.0 l.loop.invariant.1)
+    (omega arith, stack-child _ _ _ s.2 s.3 s.0 c.count_of-i.ensures c.collect_brackets-top.ensures.0 c.loop-i.invariant.1)
 
 pub shape_of-stack : goal.shape_of-stack
 shape_of-stack c = c.loop-i.invariant.0.3

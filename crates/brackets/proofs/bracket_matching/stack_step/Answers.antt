@@ -16,7 +16,7 @@ pub returns-then-n-eq0 : goal.returns-then-n-eq0
 returns-then-n-eq0 c = (step-empty _ _ _ _ (omega arith) (omega arith) c.if-n-eq0.true, omega arith)
 
 pub overflow_cast-top : goal.overflow_cast-top
-overflow_cast-top c = omega (arith, c.slice_known-1.given (c.args.n - 1))
+overflow_cast-top c = omega (arith, c.type_inv.stack (c.args.n - 1))
 
 pub returns-then-top-kind : goal.returns-then-top-kind
 returns-then-top-kind c = (step-pop _ _ _ _ (omega arith) (omega arith) (omega arith) c.if-top-kind.true, omega arith)

@@ -7,12 +7,12 @@ returns-then-statement-eq0 c = unfold trailing_from in rw c.if-statement-eq0.tru
 
 pub returns-in-NoClause : goal.returns-in-NoClause
 returns-in-NoClause c =
-    trailed _ _ _ c.if-statement-eq0.false c.rest_from.ensures.0 c.last_clause.ensures (past-none _ c.enum_told-1.given.1)
+    trailed _ _ _ c.if-statement-eq0.false c.rest_from.ensures.0 c.last_clause.ensures (past-none _ c.in-NoClause.is)
 
 pub returns-then-end-offset : goal.returns-then-end-offset
 returns-then-end-offset c =
-    trailed _ _ _ c.if-statement-eq0.false c.rest_from.ensures.0 c.last_clause.ensures (past-over _ c.kind-1.given.1 c.if-end-offset.true c.past_clause.ensures)
+    trailed _ _ _ c.if-statement-eq0.false c.rest_from.ensures.0 c.last_clause.ensures (past-over _ c.in-Ends.is c.if-end-offset.true c.past_clause.ensures)
 
 pub returns-else-end-offset : goal.returns-else-end-offset
 returns-else-end-offset c =
-    trailed _ _ _ c.if-statement-eq0.false c.rest_from.ensures.0 c.last_clause.ensures (past-not _ c.kind-1.given.1 c.if-end-offset.false)
+    trailed _ _ _ c.if-statement-eq0.false c.rest_from.ensures.0 c.last_clause.ensures (past-not _ c.in-Ends.is c.if-end-offset.false)

@@ -9,4 +9,4 @@ returns-in-Nameless c = search rules
 
 pub returns-in-Named : goal.returns-in-Named
 unfolding starts_after is_text
-returns-in-Named c = rw (c.last-1.given.1, ← c.text_of.ensures) c.is_byte.ensures
+returns-in-Named c = rw (c.in-Named.is, ← c.text_of.ensures) c.is_byte.ensures

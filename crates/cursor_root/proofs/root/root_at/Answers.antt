@@ -6,8 +6,8 @@ returns-then-query-ne0 c = root-query _ _ c.find_node_path-path.ensures.0 c.if-q
 
 pub returns-in-Record : goal.returns-in-Record
 returns-in-Record c =
-    root-statement _ _ c.find_node_path-path.ensures.0 c.if-query-ne0.false c.find_enclosing_statement.ensures c.n-1.given.1
+    root-statement _ _ c.find_node_path-path.ensures.0 c.if-query-ne0.false c.find_enclosing_statement.ensures c.in-Record.is
 
 pub returns-in-Outside : goal.returns-in-Outside
 returns-in-Outside c =
-    root-first _ _ c.find_node_path-path.ensures.0 c.if-query-ne0.false c.find_enclosing_statement.ensures c.enum_told-1.given.1
+    root-first _ _ c.find_node_path-path.ensures.0 c.if-query-ne0.false c.find_enclosing_statement.ensures c.in-Outside.is

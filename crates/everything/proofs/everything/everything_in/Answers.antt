@@ -19,8 +19,8 @@ put_lists-requires c =
 
 pub returns-in-Refused : goal.returns-in-Refused
 returns-in-Refused c =
-    everything-short _ _ _ _ (rules-passed _ _ _ c.requires refl) (rw c.root_at-root.ensures at c.counts_in-c.ensures) c.room_for.ensures c.k-1.given.1
+    everything-short _ _ _ _ (rules-passed _ _ _ c.requires refl) (rw c.root_at-root.ensures at c.counts_in-c.ensures) c.room_for.ensures c.in-Refused.is
 
 pub returns-in-Admitted : goal.returns-in-Admitted
 returns-in-Admitted c =
-    let r = c.root_at-root.ensures in everything-given _ _ _ _ (rules-passed _ _ _ c.requires refl) (rw r at c.counts_in-c.ensures) c.room_for.ensures c.enum_told-1.given.1 (rw r at c.put_everything.ensures) (rw r at c.put_lists.ensures.0) (rw r at c.put_lists.ensures.1) (rw r at c.put_lists.ensures.2) (rw r at c.put_lists.ensures.3)
+    let r = c.root_at-root.ensures in everything-given _ _ _ _ (rules-passed _ _ _ c.requires refl) (rw r at c.counts_in-c.ensures) c.room_for.ensures c.in-Admitted.is (rw r at c.put_everything.ensures) (rw r at c.put_lists.ensures.0) (rw r at c.put_lists.ensures.1) (rw r at c.put_lists.ensures.2) (rw r at c.put_lists.ensures.3)

@@ -15,12 +15,12 @@ loop-i-init c = (omega arith, walks-start _ function_name (omega arith) c.child_
 
 pub returns-in-Is : goal.returns-in-Is
 unfolding function_name
-returns-in-Is c = name-here c.loop-i.invariant.1 (omega arith) c.name_at.ensures c.name-1.given.1
+returns-in-Is c = name-here c.loop-i.invariant.1 (omega arith) c.name_at.ensures c.in-Is.is
 
 pub loop-i-preserved : goal.loop-i-preserved
 unfolding function_name
 loop-i-preserved c =
-    (omega arith, name-next c.loop-i.invariant.1 (omega arith) c.name_at.ensures c.enum_told-1.given.1 c.child_from-i-in-Open.ensures)
+    (omega arith, name-next c.loop-i.invariant.1 (omega arith) c.name_at.ensures c.in-Open.is c.child_from-i-in-Open.ensures)
 
 pub returns : goal.returns
 unfolding function_name

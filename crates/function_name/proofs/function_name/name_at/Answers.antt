@@ -18,12 +18,12 @@ returns-then-kind-eq-OPENING_ROUND c =
 pub returns-in-Nameless : goal.returns-in-Nameless
 unfolding naming_of
 returns-in-Nameless c =
-    λ base. rw (← c.kind_at-kind.ensures.0, ne_eqb _ _ c.if-kind-eq-BARE_WORD.false, ne_eqb _ _ c.if-kind-eq-OPENING_ROUND.false, eq-eqb _ _ c.if-kind-eq-IDENTIFIER.true, named_in _ base _ c.rest_from.ensures.0 c.first_bare_word.ensures) (naming-none c.enum_told-1.given.1)
+    λ base. rw (← c.kind_at-kind.ensures.0, ne_eqb _ _ c.if-kind-eq-BARE_WORD.false, ne_eqb _ _ c.if-kind-eq-OPENING_ROUND.false, eq-eqb _ _ c.if-kind-eq-IDENTIFIER.true, named_in _ base _ c.rest_from.ensures.0 c.first_bare_word.ensures) (naming-none c.in-Nameless.is)
 
 pub returns-in-Named : goal.returns-in-Named
 unfolding naming_of
 returns-in-Named c =
-    λ base. rw (← c.kind_at-kind.ensures.0, ne_eqb _ _ c.if-kind-eq-BARE_WORD.false, ne_eqb _ _ c.if-kind-eq-OPENING_ROUND.false, eq-eqb _ _ c.if-kind-eq-IDENTIFIER.true, named_in _ base _ c.rest_from.ensures.0 c.first_bare_word.ensures) (naming-some c.range-1.given.1)
+    λ base. rw (← c.kind_at-kind.ensures.0, ne_eqb _ _ c.if-kind-eq-BARE_WORD.false, ne_eqb _ _ c.if-kind-eq-OPENING_ROUND.false, eq-eqb _ _ c.if-kind-eq-IDENTIFIER.true, named_in _ base _ c.rest_from.ensures.0 c.first_bare_word.ensures) (naming-some c.in-Named.is)
 
 pub returns : goal.returns
 unfolding naming_of

@@ -8,10 +8,10 @@ pub loop-j-init : goal.loop-j-init
 loop-j-init c = (omega arith, refl)
 
 pub overflow_cast-top : goal.overflow_cast-top
-overflow_cast-top c = omega (arith, c.shared_slice_known-1.given (c.loop-j.j - 1))
+overflow_cast-top c = omega (arith, c.type_inv.stack (c.loop-j.j - 1))
 
 pub overflow_cast-result : goal.overflow_cast-result
-overflow_cast-result c = omega (arith, c.shared_slice_known-1.given (c.loop-j.j - 1))
+overflow_cast-result c = omega (arith, c.type_inv.stack (c.loop-j.j - 1))
 
 pub returns-then-top-shape : goal.returns-then-top-shape
 returns-then-top-shape c = last-here _ _ _ (omega arith) c.loop-j.invariant.1 c.if-top-shape.true

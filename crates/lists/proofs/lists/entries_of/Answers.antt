@@ -4,16 +4,16 @@ use Rattle.lists.proofs.lists.entries_of.Goals as goal
 
 pub returns-in-WithNames : goal.returns-in-WithNames
 unfolding width
-returns-in-WithNames c = (rw c.enum_told-1.given.1, omega arith)
+returns-in-WithNames c = (rw c.in-WithNames.is, omega arith)
 
 pub returns-in-TableAliases : goal.returns-in-TableAliases
 unfolding width
-returns-in-TableAliases c = (rw c.enum_told-in-TableAliases-1.given.1, omega arith)
+returns-in-TableAliases c = (rw c.in-TableAliases.is, omega arith)
 
 pub returns-in-ColumnAliases : goal.returns-in-ColumnAliases
 unfolding width
-returns-in-ColumnAliases c = (rw c.enum_told-in-ColumnAliases-1.given.1, omega arith)
+returns-in-ColumnAliases c = (rw c.in-ColumnAliases.is, omega arith)
 
 pub returns-in-TableRefs : goal.returns-in-TableRefs
 unfolding width
-returns-in-TableRefs c = (rw c.enum_told-in-TableRefs-1.given.1, omega arith)
+returns-in-TableRefs c = (rw c.in-TableRefs.is, omega arith)

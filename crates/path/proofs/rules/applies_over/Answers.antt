@@ -1,19 +1,24 @@
 use Rattle.path.specs.inner.Rules.{applies_over}
+use native.Mathlib.Omega.{arith}
 use borrow.Author.Tests.{ne_eqb}
 use Rattle.path.proofs.rules.applies_over.Goals as goal
 
 pub returns-in-4 : goal.returns-in-4
 unfolding applies_over
-returns-in-4 c = rw c.in-4.keys1
+returns-in-4 c = rw c.in-4.is
 
 pub returns-in-9 : goal.returns-in-9
 unfolding applies_over
-returns-in-9 c = rw c.in-9.keys2
+returns-in-9 c = rw c.in-9.is
 
 pub returns-in-13 : goal.returns-in-13
 unfolding applies_over
-returns-in-13 c = rw c.in-13.keys3
+returns-in-13 c = rw c.in-13.is
 
 pub returns-in_default : goal.returns-in_default
 unfolding applies_over
-returns-in_default c = let r = c.in_default.rest in simp (ne_eqb _ _ r.0.0.1, ne_eqb _ _ r.0.1, ne_eqb _ _ r.1)
+returns-in_default c =
+    simp (
+    ne_eqb c.args.rule 4 (omega arith),
+    ne_eqb c.args.rule 9 (omega arith),
+    ne_eqb c.args.rule 13 (omega arith))

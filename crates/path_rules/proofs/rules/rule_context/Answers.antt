@@ -5,51 +5,51 @@ use Rattle.path_rules.proofs.rules.rule_context.Goals as goal
 
 pub returns-in-2 : goal.returns-in-2
 unfolding gives given_by path_rules
-returns-in-2 c = λ base. rw c.in-2.keys1 (c.table_ref_or_dot.ensures base)
+returns-in-2 c = λ base. rw c.in-2.is (c.table_ref_or_dot.ensures base)
 
 pub returns-in-3 : goal.returns-in-3
 unfolding gives given_by path_rules
-returns-in-3 c = λ base. rw c.in-3.keys2 (c.join_context.ensures base)
+returns-in-3 c = λ base. rw c.in-3.is (c.join_context.ensures base)
 
 pub returns-in-4 : goal.returns-in-4
 unfolding gives given_by path_rules
-returns-in-4 c = λ base. rw c.in-4.keys3 (c.table_ref_or_dot-in-4.ensures base)
+returns-in-4 c = λ base. rw c.in-4.is (c.table_ref_or_dot-in-4.ensures base)
 
 pub returns-in-5 : goal.returns-in-5
 unfolding gives given_by path_rules
-returns-in-5 c = λ base. rw c.in-5.keys4
+returns-in-5 c = λ base. rw c.in-5.is
 
 pub returns-in-6 : goal.returns-in-6
 unfolding gives given_by path_rules
-returns-in-6 c = λ base. rw c.in-6.keys5
+returns-in-6 c = λ base. rw c.in-6.is
 
 pub returns-in-7 : goal.returns-in-7
 unfolding gives given_by path_rules
-returns-in-7 c = λ base. rw c.in-7.keys6
+returns-in-7 c = λ base. rw c.in-7.is
 
 pub returns-in-8 : goal.returns-in-8
 unfolding gives given_by path_rules
-returns-in-8 c = λ base. rw c.in-8.keys7
+returns-in-8 c = λ base. rw c.in-8.is
 
 pub returns-in-9 : goal.returns-in-9
 unfolding gives given_by path_rules
-returns-in-9 c = λ base. rw c.in-9.keys8
+returns-in-9 c = λ base. rw c.in-9.is
 
 pub returns-in-10 : goal.returns-in-10
 unfolding gives given_by path_rules
-returns-in-10 c = λ base. rw c.in-10.keys9
+returns-in-10 c = λ base. rw c.in-10.is
 
 pub returns-in-11 : goal.returns-in-11
 unfolding gives given_by path_rules
-returns-in-11 c = λ base. rw c.in-11.keys10 (c.function_argument.ensures base)
+returns-in-11 c = λ base. rw c.in-11.is (c.function_argument.ensures base)
 
 pub returns-in-12 : goal.returns-in-12
 unfolding gives given_by path_rules
-returns-in-12 c = λ base. rw c.in-12.keys11 (c.column_context.ensures base)
+returns-in-12 c = λ base. rw c.in-12.is (c.column_context.ensures base)
 
 pub returns-in-13 : goal.returns-in-13
 unfolding gives given_by path_rules
-returns-in-13 c = λ base. rw c.in-13.keys12
+returns-in-13 c = λ base. rw c.in-13.is
 
 pub returns-in_default : goal.returns-in_default
 unfolding gives given_by path_rules

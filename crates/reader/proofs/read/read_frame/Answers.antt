@@ -40,7 +40,7 @@ number-requires c = omega (arith, numbers-long 8 _ (sym c.is_numbers.ensures ∙
 pub returns-in-Faulty : goal.returns-in-Faulty
 unfolding ReadFrame
 returns-in-Faulty c =
-    records-faulty _ _ c.line-1.given.1 c.read_records.ensures ∙ records-ruled _ c.line_end-end.ensures.0 c.is_source.ensures c.if-not-is_source.false _ c.after_line-rest.ensures c.line_end-offset_end.ensures.0 c.is_numbers.ensures c.if-not-is_numbers.false _ c.after_line-records.ensures (omega arith)
+    records-faulty _ _ c.in-Faulty.is c.read_records.ensures ∙ records-ruled _ c.line_end-end.ensures.0 c.is_source.ensures c.if-not-is_source.false _ c.after_line-rest.ensures c.line_end-offset_end.ensures.0 c.is_numbers.ensures c.if-not-is_numbers.false _ c.after_line-records.ensures (omega arith)
 
 pub returns-in-Read : goal.returns-in-Read
 unfolding ReadFrame
@@ -49,7 +49,7 @@ returns-in-Read c =
     let e = c.line_end-end.result in
     let l = length-take-le e a.input.now c.line_end-end.ensures.1 in
     let s = source-short _ (sym c.is_source.ensures ∙ c.if-not-is_source.false) in
-    let q = records-read _ _ c.n-1.given.1 c.read_records.ensures in (
+    let q = records-read _ _ c.in-Read.is c.read_records.ensures in (
       q.0 ∙ records-ruled _ c.line_end-end.ensures.0 c.is_source.ensures c.if-not-is_source.false _ c.after_line-rest.ensures c.line_end-offset_end.ensures.0 c.is_numbers.ensures c.if-not-is_numbers.false _ c.after_line-records.ensures (omega arith),
       omega arith,
       ap (take (e / 2)) c.read_source.ensures ∙ source-front (take e a.input.now) _ (sym l) (omega arith) ∙ sym (frame-source _ c.line_end-end.ensures.0 c.is_source.ensures c.if-not-is_source.false _ c.after_line-rest.ensures c.line_end-offset_end.ensures.0 c.is_numbers.ensures c.if-not-is_numbers.false _ c.after_line-records.ensures),

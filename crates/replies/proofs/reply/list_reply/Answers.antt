@@ -3,8 +3,8 @@ use Rattle.replies.proofs.reply.list_reply.Goals as goal
 
 pub returns-in-Entries : goal.returns-in-Entries
 unfolding list_reply
-returns-in-Entries c = rw c.l-1.given.1 c.packed.ensures
+returns-in-Entries c = rw c.in-Entries.is c.packed.ensures
 
 pub returns-in-Refused : goal.returns-in-Refused
 unfolding list_reply
-returns-in-Refused c = rw c.l-in-Refused-1.given.1 c.packed-in-Refused.ensures
+returns-in-Refused c = rw c.in-Refused.is c.packed-in-Refused.ensures

@@ -3,8 +3,8 @@ use Rattle.replies.proofs.reply.root_number.Goals as goal
 
 pub returns-in-Root : goal.returns-in-Root
 unfolding root_number
-returns-in-Root c = rw c.s-1.given.1 c.packed.ensures
+returns-in-Root c = rw c.in-Root.is c.packed.ensures
 
 pub returns-in-Refused : goal.returns-in-Refused
 unfolding root_number
-returns-in-Refused c = rw c.s-in-Refused-1.given.1 c.packed-in-Refused.ensures
+returns-in-Refused c = rw c.in-Refused.is c.packed-in-Refused.ensures

@@ -3,8 +3,8 @@ use Rattle.report.proofs.output.entry_count.Goals as goal
 
 pub returns-in-Entries : goal.returns-in-Entries
 unfolding entry_count
-returns-in-Entries c = rw c.reply-1.given.1
+returns-in-Entries c = rw c.in-Entries.is
 
 pub returns-in-Refused : goal.returns-in-Refused
 unfolding entry_count
-returns-in-Refused c = rw c.enum_told-1.given.1
+returns-in-Refused c = rw c.in-Refused.is

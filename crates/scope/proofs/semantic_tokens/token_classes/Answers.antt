@@ -14,14 +14,14 @@ pub list_classes-requires : goal.list_classes-requires
 unfolding keyword_bytes flatten keywords bytes_of
 list_classes-requires c =
     let checked = c.check.ensures in
-    let admitted = c.enum_told-1.given.1 in
+    let admitted = c.in-Admitted.is in
     (record { bytes = refl; places = refl }, (admitted-tidy _ _ 0 (sym checked ∙ admitted)).few, admitted-carries _ _ checked admitted)
 
 pub returns-in-Refused : goal.returns-in-Refused
 unfolding keyword_bytes flatten keywords bytes_of
-returns-in-Refused c = list-refused class_row _ _ _ (rules-refused _ _ _ c.check.ensures c.k-1.given.1)
+returns-in-Refused c = list-refused class_row _ _ _ (rules-refused _ _ _ c.check.ensures c.in-Refused.is)
 
 pub returns-in-Admitted : goal.returns-in-Admitted
 unfolding keyword_bytes flatten keywords bytes_of
 returns-in-Admitted c =
-    list-admitted class_row _ _ _ (rules-passed _ _ _ c.check.ensures c.enum_told-1.given.1) c.list_classes.ensures
+    list-admitted class_row _ _ _ (rules-passed _ _ _ c.check.ensures c.in-Admitted.is) c.list_classes.ensures

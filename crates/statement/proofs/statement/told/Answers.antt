@@ -1,3 +1,4 @@
+use Rattle.statement.specs.Statement.{told}
 use borrow.Author.Rules.{rules}
 use Rattle.statement.proofs.statement.told.Goals as goal
 
@@ -7,4 +8,4 @@ returns-in-Outside c = search rules
 
 pub returns-in-Record : goal.returns-in-Record
 unfolding told
-returns-in-Record c = rw c.e-1.given.1
+returns-in-Record c = rw c.in-Record.is

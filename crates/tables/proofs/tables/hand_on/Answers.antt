@@ -6,12 +6,12 @@ use native.Mathlib.Omega.{arith}
 use Rattle.tables.proofs.tables.hand_on.Goals as goal
 
 pub returns-in-Aliases : goal.returns-in-Aliases
-returns-in-Aliases c = (rw (c.enum_told-1.given.1, hand-none _) (written_none as_row _ _), omega arith)
+returns-in-Aliases c = (rw (c.in-Aliases.is, hand-none _) (written_none as_row _ _), omega arith)
 
 pub returns-in-Nothing : goal.returns-in-Nothing
 returns-in-Nothing c =
-    (rw (← c.pending_of.ensures, c.enum_told-in-Nothing-1.given.1, hand-nothing _) (written_none as_row _ _), omega arith)
+    (rw (← c.pending_of.ensures, c.in-Nothing.is, hand-nothing _) (written_none as_row _ _), omega arith)
 
 pub returns-in-Held : goal.returns-in-Held
 returns-in-Held c =
-    (rw (c.enum_told-in-References-1.given.1, ← c.pending_of.ensures, c.t-1.given.1, hand-held _) (written-map reference_row _ c.put_reference.ensures.0), omega arith)
+    (rw (c.in-References.is, ← c.pending_of.ensures, c.in-Held.is, hand-held _) (written-map reference_row _ c.put_reference.ensures.0), omega arith)

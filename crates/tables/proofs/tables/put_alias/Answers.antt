@@ -8,11 +8,11 @@ use native.Mathlib.Omega.{arith}
 use Rattle.tables.proofs.tables.put_alias.Goals as goal
 
 pub returns-in-References : goal.returns-in-References
-returns-in-References c = (λ alias. rw (c.enum_told-1.given.1, alias-none _ _) (written_none as_row _ _), omega arith)
+returns-in-References c = (λ alias. rw (c.in-References.is, alias-none _ _) (written_none as_row _ _), omega arith)
 
 pub returns-then-is_waiting : goal.returns-then-is_waiting
 returns-then-is_waiting c =
-    (λ alias. rw (c.enum_told-in-Aliases-1.given.1, ← bound-at _ _ _ _ c.stretch_of-part.ensures.0 refl, alias-held _ _ (c.is_waiting.ensures _ alias) c.if-is_waiting.true) (written-map binding_row _ c.put_alias_name.ensures.0), omega arith)
+    (λ alias. rw (c.in-Aliases.is, ← bound-at _ _ _ _ c.stretch_of-part.ensures.0 refl, alias-held _ _ (c.is_waiting.ensures _ alias) c.if-is_waiting.true) (written-map binding_row _ c.put_alias_name.ensures.0), omega arith)
 
 pub returns-else-is_waiting : goal.returns-else-is_waiting
 returns-else-is_waiting c =

@@ -8,4 +8,4 @@ returns-in-Nameless c = search rules
 
 pub returns-in-Named : goal.returns-in-Named
 unfolding is_text
-returns-in-Named c = rw (c.token-1.given.1, ← c.text_of.ensures) c.is_byte.ensures
+returns-in-Named c = rw (c.in-Named.is, ← c.text_of.ensures) c.is_byte.ensures

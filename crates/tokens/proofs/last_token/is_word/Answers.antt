@@ -8,4 +8,4 @@ returns-in-Nameless c = search rules
 
 pub returns-in-Named : goal.returns-in-Named
 unfolding is_word
-returns-in-Named c = rw (c.token-1.given.1, ← c.text_of.ensures) c.says.ensures
+returns-in-Named c = rw (c.in-Named.is, ← c.text_of.ensures) c.says.ensures

@@ -11,9 +11,9 @@ returns-then-not-counts c =
 pub returns-in-LastToken : goal.returns-in-LastToken
 unfolding moved_to
 returns-in-LastToken c =
-    (rw (← c.counts.ensures, c.if-not-counts.false, c.enum_told-1.given.1), omega arith, omega arith, omega arith)
+    (rw (← c.counts.ensures, c.if-not-counts.false, c.in-LastToken.is), omega arith, omega arith, omega arith)
 
 pub returns-in-ArgumentIndex : goal.returns-in-ArgumentIndex
 unfolding moved_to
 returns-in-ArgumentIndex c =
-    (rw (← c.counts.ensures, c.if-not-counts.false, c.enum_told-in-ArgumentIndex-1.given.1, c.argue.ensures.0), c.argue.ensures.1, omega arith, omega arith)
+    (rw (← c.counts.ensures, c.if-not-counts.false, c.in-ArgumentIndex.is, c.argue.ensures.0), c.argue.ensures.1, omega arith, omega arith)
