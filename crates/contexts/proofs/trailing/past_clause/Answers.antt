@@ -1,4 +1,5 @@
 use Rattle.contexts.specs.Trailing.{past_clause}
+use native.Mathlib.Omega.{arith}
 use borrow.Author.Tests.{ne_eqb}
 use Rattle.contexts.proofs.trailing.past_clause.Goals as goal
 
@@ -41,4 +42,13 @@ returns-in-26 c = rw c.in-26.is
 pub returns-in_default : goal.returns-in_default
 unfolding past_clause
 returns-in_default c =
-    let r = c.in_default.rest in simp (ne_eqb _ _ r.0.0.0.0.0.0.0.0.1, ne_eqb _ _ r.0.0.0.0.0.0.0.1, ne_eqb _ _ r.0.0.0.0.0.0.1, ne_eqb _ _ r.0.0.0.0.0.1, ne_eqb _ _ r.0.0.0.0.1, ne_eqb _ _ r.0.0.0.1, ne_eqb _ _ r.0.0.1, ne_eqb _ _ r.0.1, ne_eqb _ _ r.1)
+    simp (
+    ne_eqb c.args.kind 18 (omega arith),
+    ne_eqb c.args.kind 19 (omega arith),
+    ne_eqb c.args.kind 20 (omega arith),
+    ne_eqb c.args.kind 21 (omega arith),
+    ne_eqb c.args.kind 22 (omega arith),
+    ne_eqb c.args.kind 16 (omega arith),
+    ne_eqb c.args.kind 15 (omega arith),
+    ne_eqb c.args.kind 23 (omega arith),
+    ne_eqb c.args.kind 26 (omega arith))
