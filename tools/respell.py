@@ -20,6 +20,8 @@ APART = [
     ("crates/rust/proofs/SemanticTokensRs.antt", "isKeyword", "word_is_keyword"),
 ]
 WORD = re.compile(r"(?<![\w'])[a-z][a-z0-9]*(?:[A-Z][A-Za-z0-9]*)+")
+# a text in quotes stays as it is
+TEXT_OR_WORD = re.compile(r'"(?:[^"\\\n]|\\.)*"|' + WORD.pattern)
 
 
 def respelled(word):
@@ -47,7 +49,7 @@ def main():
     changed = 0
     for p in texts + papers:
         old = p.read_text()
-        new = WORD.sub(lambda m: respelled(m.group(0)) if m.group(0) in words else m.group(0), old)
+        new = TEXT_OR_WORD.sub(lambda m: respelled(m.group(0)) if m.group(0) in words else m.group(0), old)
         if new != old:
             p.write_text(new)
             changed += 1

@@ -116,7 +116,7 @@ cases =
     on (bytes_of "db,table.") (over from_clause) 3 (plain 1) ∷
     -- 3: JOIN, ON in any case whatever its kind, USING, kind 28 above the JOIN
     on (bytes_of "db.table.") (over join_clause) 3 (with 2 0 2 0) ∷
-    on (bytes_of "o_n.table.") (over join_clause) 1 (plain 4) ∷
+    on (bytes_of "oN.table.") (over join_clause) 1 (plain 4) ∷
     on (bytes_of "using,ab.") (rec join_clause 0 0 9 ++ rec other_token 1 0 5) 5 (plain 4) ∷
     on (bytes_of "ab.table.") (rec file 0 0 9 ++ rec join_constraint 1 0 9 ++ rec join_clause 2 0 9) 3 (plain 4) ∷
     -- 4: INSERT, deepest or over a table's name

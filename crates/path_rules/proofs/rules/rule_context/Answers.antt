@@ -1,5 +1,6 @@
 use Rattle.contexts.specs.PathRules.{path_rules}
 use Rattle.contexts.specs.inner.ByNumber.{gives, given_by}
+use native.Mathlib.Omega.{arith}
 use borrow.Author.Tests.{ne_eqb}
 use Rattle.path_rules.proofs.rules.rule_context.Goals as goal
 
@@ -54,4 +55,16 @@ returns-in-13 c = λ base. rw c.in-13.is
 pub returns-in_default : goal.returns-in_default
 unfolding gives given_by path_rules
 returns-in_default c =
-    λ base. let r = c.in_default.rest in simp (ne_eqb _ _ r.0.0.0.0.0.0.0.0.0.0.0.1, ne_eqb _ _ r.0.0.0.0.0.0.0.0.0.0.1, ne_eqb _ _ r.0.0.0.0.0.0.0.0.0.1, ne_eqb _ _ r.0.0.0.0.0.0.0.0.1, ne_eqb _ _ r.0.0.0.0.0.0.0.1, ne_eqb _ _ r.0.0.0.0.0.0.1, ne_eqb _ _ r.0.0.0.0.0.1, ne_eqb _ _ r.0.0.0.0.1, ne_eqb _ _ r.0.0.0.1, ne_eqb _ _ r.0.0.1, ne_eqb _ _ r.0.1, ne_eqb _ _ r.1)
+    λ base. simp (
+    ne_eqb c.args.rule 2 (omega arith),
+    ne_eqb c.args.rule 3 (omega arith),
+    ne_eqb c.args.rule 4 (omega arith),
+    ne_eqb c.args.rule 5 (omega arith),
+    ne_eqb c.args.rule 6 (omega arith),
+    ne_eqb c.args.rule 7 (omega arith),
+    ne_eqb c.args.rule 8 (omega arith),
+    ne_eqb c.args.rule 9 (omega arith),
+    ne_eqb c.args.rule 10 (omega arith),
+    ne_eqb c.args.rule 11 (omega arith),
+    ne_eqb c.args.rule 12 (omega arith),
+    ne_eqb c.args.rule 13 (omega arith))
