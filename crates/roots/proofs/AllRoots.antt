@@ -103,6 +103,7 @@ sum-members (x ∷ xs) h = rw (h x (Memᴰ.head refl), sum-members xs (λ y m. h
 
 all-nodes : (r : Rec) (rs : List Rec) → Memᴰ r (node_records rs) → is_node r.kind ≡ true
 unfolding node_records
+all-nodes r [] m = elim m [ ]
 all-nodes r (q ∷ rs) m = go (is_node q.kind) refl m (all-nodes r rs)
   where
     go : (b : Bool) → is_node q.kind ≡ b → Memᴰ r (cond b (q ∷ node_records rs) (node_records rs)) → (Memᴰ r (node_records rs) → is_node r.kind ≡ true)
@@ -113,6 +114,7 @@ all-nodes r (q ∷ rs) m = go (is_node q.kind) refl m (all-nodes r rs)
 
 among-selves : (p : Place) (ps : List Place) → Memᴰ p ps → Memᴰ p.self (selves ps)
 unfolding selves
+among-selves p [] x' = elim x' [ ]
 among-selves p (q ∷ ps) (Memᴰ.head x) = Memᴰ.head (ap (λ (z : Place). z.self) x)
 among-selves p (q ∷ ps) (Memᴰ.tail x) = Memᴰ.tail (among-selves p ps x)
 

@@ -75,6 +75,7 @@ module _ (t : List ℕ) where
   last_of : (l : List Rec) (best : Option Rec) (lo hi d : ℕ) (r : Rec) → hi ≤ count t → Nested t lo hi d l → is_subquery r.kind ≡ true → Memᴰ r l
       → Last best l l r.index
   unfolding deepest_or Nested
+  last_of [] best lo hi d r h n k x4 = elim x4 [ ]
   last_of (c ∷ l) best lo hi d r h n k (Memᴰ.head e) =
       let y : is_subquery c.kind ≡ true = ap (λ (x : Rec). is_subquery x.kind) (sym e) ∙ k in
       starts best c l (c ∷ l) r.index y (ap (λ (x : Rec). x.index) e)

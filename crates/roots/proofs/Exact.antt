@@ -43,6 +43,7 @@ absent f x h (p ∷ ps) z = omega (arith, h p (λ e. omega (arith, one-is x p e)
 
 present : (x : ℕ) (q : Place) → q.self.index ≡ x → (ps : List Place) → Memᴰ q ps → 1 ≤ sum (one x) ps
 unfolding sum
+present x q e [] x'' = elim x'' [ ]
 present x q e (p ∷ ps) (Memᴰ.head s) = omega (arith, one-is x p (ap (λ (y : Place). y.self.index) (sym s) ∙ e))
 present x q e (p ∷ ps) (Memᴰ.tail m) = omega (arith, present x q e ps m)
 
@@ -50,6 +51,7 @@ present x q e (p ∷ ps) (Memᴰ.tail m) = omega (arith, present x q e ps m)
 pick : (f : Place → ℕ) (q : Place) → ((p : Place) → (p.self.index ≡ q.self.index → ⊥) → f p ≡ 0)
     → (ps : List Place) → Memᴰ q ps → Numbered ps → sum f ps ≡ f q
 unfolding sum
+pick f q h [] x'' n = elim x'' [ ]
 pick f q h (p ∷ ps) (Memᴰ.head s) n =
     let u : one q.self.index p ≡ 1 = one-is q.self.index p (ap (λ (y : Place). y.self.index) (sym s)) in
     rw s (omega (arith, absent f q.self.index h ps (omega (arith, n q.self.index))))

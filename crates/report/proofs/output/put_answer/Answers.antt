@@ -8,7 +8,7 @@ pub put_text-requires : goal.put_text-requires
 unfolding bytes_of
 put_text-requires c =
     let h = answer-room c.args.n c.requires.3 c.put_context-first.ensures.1 c.put_statement-second.ensures.1 c.put_list-third.ensures.1 c.put_classes-fourth.ensures.1 c.put_openers-fifth.ensures.1 in
-    omega (arith, h, a)
+    omega (arith, h)
 
 pub returns : goal.returns
 unfolding bytes_of
