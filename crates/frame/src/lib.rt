@@ -1,6 +1,8 @@
 // glance's whole work, from input bytes to output bytes: what the program prints is proved here.
 #![tactic(auto)]
 
+pub mod stream;
+
 ghost use Rattle.std.specs.Prelude.{◌≡◌, ◌++◌, ◌≤◌, length, drop};
 ghost use Rattle.frame.specs.Glance.{glanced};
 

@@ -2,9 +2,11 @@
 // numbers of eight hexadecimal digits, the bytes of the input and those of the answer, then LF, the input and the answer.
 #![tactic(auto)]
 
+use frame::stream::read_full;
 use frame::{TEXT_ROOM, glance};
-use libc::{STDIN_FILENO, STDOUT_FILENO};
 use lines::input::number;
+use std::io;
+use std::io::Read;
 use text::text::same;
 
 // How many bytes stand before a frame's input.
@@ -34,62 +36,62 @@ fn compare(input: &[u8], stored: &[u8]) -> Outcome {
 }
 
 // Reads an input of n bytes and an answer of m into their buffers.
-fn read_stored(n: usize, m: usize, input: &mut [u8], stored: &mut [u8]) -> Outcome {
+fn read_stored<R: Read>(
+    list: &mut R,
+    n: usize,
+    m: usize,
+    input: &mut [u8],
+    stored: &mut [u8],
+) -> io::Result<Outcome> {
     if input.len() < n {
-        return Outcome::Broken;
+        return Ok(Outcome::Broken);
     }
     if stored.len() < m {
-        return Outcome::Broken;
+        return Ok(Outcome::Broken);
     }
-    if io::read_full(STDIN_FILENO, &mut input[..n]) != n {
-        return Outcome::Broken;
+    if read_full(list, &mut input[..n])? != n {
+        return Ok(Outcome::Broken);
     }
-    if io::read_full(STDIN_FILENO, &mut stored[..m]) != m {
-        return Outcome::Broken;
+    if read_full(list, &mut stored[..m])? != m {
+        return Ok(Outcome::Broken);
     }
-    compare(&input[..n], &stored[..m])
+    Ok(compare(&input[..n], &stored[..m]))
 }
 
 // Reads the next stored frame and compares it.
-fn next_frame() -> Outcome {
+fn next_frame<R: Read>(list: &mut R) -> io::Result<Outcome> {
     let mut head = [0u8; HEAD];
-    let got = io::read_full(STDIN_FILENO, &mut head);
+    let got = read_full(list, &mut head)?;
     if got == 0 {
-        return Outcome::End;
+        return Ok(Outcome::End);
     }
     if got < HEAD {
-        return Outcome::Broken;
+        return Ok(Outcome::Broken);
     }
     let n = number(&head[..8]);
     let m = number(&head[8..16]);
     let mut input = [0u8; ROOM];
     let mut stored = [0u8; TEXT_ROOM];
-    read_stored(n, m, &mut input, &mut stored)
-}
-
-// Writes how many frames agree.
-fn tell(what: &[u8], n: u64) {
-    io::write_all(STDOUT_FILENO, what);
-    io::print_decimal(STDOUT_FILENO, n);
-    io::write_all(STDOUT_FILENO, b"\n");
+    read_stored(list, n, m, &mut input, &mut stored)
 }
 
 // Replays the list on standard input.
-fn main() {
+fn main(rt: HostRuntime) -> io::Result<()> {
+    let mut list = rt.reader();
     let mut frames: u64 = 0;
     let mut agreed: u64 = 0;
     while frames < u64::MAX {
-        match next_frame() {
+        match next_frame(&mut list)? {
             Outcome::End => break,
             Outcome::Broken => {
-                tell(b"the list breaks off at frame ", frames);
+                println!(rt; "the list breaks off at frame {frames}")?;
                 break;
             }
-            Outcome::Differs => tell(b"another answer at frame ", frames),
+            Outcome::Differs => println!(rt; "another answer at frame {frames}")?,
             Outcome::Agrees => agreed += 1,
         }
         frames += 1;
     }
-    tell(b"frames ", frames);
-    tell(b"agree ", agreed);
+    println!(rt; "frames {frames}")?;
+    println!(rt; "agree {agreed}")
 }
