@@ -12,7 +12,7 @@ use Rattle.collection.proofs.collection.+collect_scope.Goals as goal
 
 pub returns-then-kind_at-eq-WITH_CLAUSE : goal.returns-then-kind_at-eq-WITH_CLAUSE
 returns-then-kind_at-eq-WITH_CLAUSE t c =
-    (rw (collection-with _ _ _ c.kind_at.ensures.0 c.if-kind_at-eq-WITH_CLAUSE.true) c.own_part-next.ensures.0, omega arith)
+    (rw (collection-with _ _ _ c.kind_at.ensures.0 (omega arith)) c.own_part-next.ensures.0, omega arith)
 
 pub loop-i-init : goal.loop-i-init
 loop-i-init t c =
@@ -45,4 +45,4 @@ loop-i-preserved t c =
 
 pub returns : goal.returns
 returns t c =
-    (rw (collection-on _ _ _ c.kind_at.ensures.0 c.if-kind_at-eq-WITH_CLAUSE.false) (written_then as_row c.own_part-next.ensures.0 (writing-end as_row (collected _) _ (collected-none _) (walk_end c.loop-i.invariant.1.walk (omega arith)))), omega arith)
+    (rw (collection-on _ _ _ c.kind_at.ensures.0 (omega arith)) (written_then as_row c.own_part-next.ensures.0 (writing-end as_row (collected _) _ (collected-none _) (walk_end c.loop-i.invariant.1.walk (omega arith)))), omega arith)
