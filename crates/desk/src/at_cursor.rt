@@ -27,8 +27,7 @@ use replies::reply::{list_reply, packed, root_number, statement_number};
 use statement::statement::enclosing_statement;
 
 // The statement that encloses the offset. High half of an answer: its record, or 4294967295 for none.
-#[unsafe(no_mangle)]
-pub extern "C" fn desk_enclosing_statement(table: &[u8], source: &[u8], offset: u32) -> u64
+pub fn desk_enclosing_statement(table: &[u8], source: &[u8], offset: u32) -> u64
     ensures { result ≡ statement_number (statement_reply (verdict table.now (length source.now) 0)
         (enclosing_at table.now offset)) }
 {
@@ -36,8 +35,7 @@ pub extern "C" fn desk_enclosing_statement(table: &[u8], source: &[u8], offset: 
 }
 
 // The cursor's root. High half of an answer: its record.
-#[unsafe(no_mangle)]
-pub extern "C" fn desk_cursor_root(table: &[u8], source: &[u8], offset: u32) -> u64
+pub fn desk_cursor_root(table: &[u8], source: &[u8], offset: u32) -> u64
     ensures { result ≡ root_number (root_reply (verdict table.now (length source.now) 0) (root_at table.now offset)) }
 {
     root_number(cursor_root(table, source, offset as usize))
@@ -45,8 +43,7 @@ pub extern "C" fn desk_cursor_root(table: &[u8], source: &[u8], offset: u32) -> 
 
 // The WITH names offered at the offset: those of the cursor's root, then those that it sees of the queries around it. High half of an answer: the
 // entries written.
-#[unsafe(no_mangle)]
-pub extern "C" fn desk_with_names_at(
+pub fn desk_with_names_at(
     table: &[u8],
     source: &[u8],
     offset: u32,
@@ -59,8 +56,7 @@ pub extern "C" fn desk_with_names_at(
 }
 
 // The table aliases offered at the offset. High half of an answer: the entries written.
-#[unsafe(no_mangle)]
-pub extern "C" fn desk_table_aliases_at(
+pub fn desk_table_aliases_at(
     table: &[u8],
     source: &[u8],
     offset: u32,
@@ -73,8 +69,7 @@ pub extern "C" fn desk_table_aliases_at(
 }
 
 // The column aliases offered at the offset. High half of an answer: the entries written.
-#[unsafe(no_mangle)]
-pub extern "C" fn desk_column_aliases_at(
+pub fn desk_column_aliases_at(
     table: &[u8],
     source: &[u8],
     offset: u32,
@@ -87,8 +82,7 @@ pub extern "C" fn desk_column_aliases_at(
 }
 
 // The table references offered at the offset. High half of an answer: the entries written.
-#[unsafe(no_mangle)]
-pub extern "C" fn desk_table_refs_at(
+pub fn desk_table_refs_at(
     table: &[u8],
     source: &[u8],
     offset: u32,
@@ -101,8 +95,7 @@ pub extern "C" fn desk_table_refs_at(
 }
 
 // What is being typed at the offset, as a list of one entry. High half of an answer: 1.
-#[unsafe(no_mangle)]
-pub extern "C" fn desk_cursor_context(
+pub fn desk_cursor_context(
     table: &[u8],
     source: &[u8],
     offset: u32,
@@ -118,8 +111,7 @@ pub extern "C" fn desk_cursor_context(
 }
 
 // What is being typed at each of the offsets, of four bytes each. High half of an answer: the entries written.
-#[unsafe(no_mangle)]
-pub extern "C" fn desk_cursor_contexts(
+pub fn desk_cursor_contexts(
     table: &[u8],
     source: &[u8],
     offsets: &[u8],
@@ -133,8 +125,7 @@ pub extern "C" fn desk_cursor_contexts(
 
 // Everything at the offset in one call: the context, the root and how many entries each list has as one entry, and the four lists, each in its own
 // buffer. High half of an answer: 1.
-#[unsafe(no_mangle)]
-pub extern "C" fn desk_everything_at(
+pub fn desk_everything_at(
     table: &[u8],
     source: &[u8],
     offset: u32,

@@ -24,24 +24,21 @@ use scope::semantic_tokens::token_classes;
 use table::check::check;
 
 // The layout of records and entries, by its number: a host asks for it by its name, so that one of another layout does not link.
-#[unsafe(no_mangle)]
-pub extern "C" fn desk_layout_3() -> u64
+pub fn desk_layout_3() -> u64
     ensures { result ≡ 3 }
 {
     3
 }
 
 // Is the table admitted? High half of an answer: 0.
-#[unsafe(no_mangle)]
-pub extern "C" fn desk_check(table: &[u8], source: &[u8]) -> u64
+pub fn desk_check(table: &[u8], source: &[u8]) -> u64
     ensures { result ≡ verdict_reply (verdict table.now (length source.now) 0) }
 {
     verdict_reply(check(table, source))
 }
 
 // The classed tokens. High half of an answer: the entries written.
-#[unsafe(no_mangle)]
-pub extern "C" fn desk_token_classes(table: &[u8], source: &[u8], out: &mut [u8]) -> u64
+pub fn desk_token_classes(table: &[u8], source: &[u8], out: &mut [u8]) -> u64
     ensures { AnswersC (rules table.now (length source.now) 0) class_row
         (classes_of source.now table.now) out.old result out.new }
 {
@@ -49,8 +46,7 @@ pub extern "C" fn desk_token_classes(table: &[u8], source: &[u8], out: &mut [u8]
 }
 
 // The openers left. High half of an answer: the entries written.
-#[unsafe(no_mangle)]
-pub extern "C" fn desk_openers_left(table: &[u8], source: &[u8], out: &mut [u8]) -> u64
+pub fn desk_openers_left(table: &[u8], source: &[u8], out: &mut [u8]) -> u64
     ensures { AnswersC (rules table.now (length source.now) 0) opener_row
         (openers_left table.now) out.old result out.new }
 {
@@ -58,8 +54,7 @@ pub extern "C" fn desk_openers_left(table: &[u8], source: &[u8], out: &mut [u8])
 }
 
 // The opener that a message speaks of. High half of an answer: its record, or 4294967295 for none.
-#[unsafe(no_mangle)]
-pub extern "C" fn desk_bracket_hint(table: &[u8], source: &[u8], message: &[u8]) -> u64
+pub fn desk_bracket_hint(table: &[u8], source: &[u8], message: &[u8]) -> u64
     ensures { result ≡ hint_reply (hinted (verdict table.now (length source.now) (length message.now))
         (hint_of message.now (stack_left table.now))) }
 {
@@ -67,8 +62,7 @@ pub extern "C" fn desk_bracket_hint(table: &[u8], source: &[u8], message: &[u8])
 }
 
 // The WITH names of a root. High half of an answer: the entries written.
-#[unsafe(no_mangle)]
-pub extern "C" fn desk_with_names(table: &[u8], source: &[u8], root: u32, out: &mut [u8]) -> u64
+pub fn desk_with_names(table: &[u8], source: &[u8], root: u32, out: &mut [u8]) -> u64
     ensures { AnswersC (root_rules table.now (length source.now) root) binding_row
         (with_names source.now table.now root) out.old result out.new }
 {
@@ -76,8 +70,7 @@ pub extern "C" fn desk_with_names(table: &[u8], source: &[u8], root: u32, out: &
 }
 
 // The table aliases of a root. High half of an answer: the entries written.
-#[unsafe(no_mangle)]
-pub extern "C" fn desk_table_aliases(table: &[u8], source: &[u8], root: u32, out: &mut [u8]) -> u64
+pub fn desk_table_aliases(table: &[u8], source: &[u8], root: u32, out: &mut [u8]) -> u64
     ensures { AnswersC (root_rules table.now (length source.now) root) binding_row
         (table_aliases source.now table.now root) out.old result out.new }
 {
@@ -85,8 +78,7 @@ pub extern "C" fn desk_table_aliases(table: &[u8], source: &[u8], root: u32, out
 }
 
 // The column aliases of a root. High half of an answer: the entries written.
-#[unsafe(no_mangle)]
-pub extern "C" fn desk_column_aliases(table: &[u8], source: &[u8], root: u32, out: &mut [u8]) -> u64
+pub fn desk_column_aliases(table: &[u8], source: &[u8], root: u32, out: &mut [u8]) -> u64
     ensures { AnswersC (root_rules table.now (length source.now) root) binding_row
         (column_aliases source.now table.now root) out.old result out.new }
 {
@@ -94,8 +86,7 @@ pub extern "C" fn desk_column_aliases(table: &[u8], source: &[u8], root: u32, ou
 }
 
 // The table references of a root. High half of an answer: the entries written.
-#[unsafe(no_mangle)]
-pub extern "C" fn desk_table_refs(table: &[u8], source: &[u8], root: u32, out: &mut [u8]) -> u64
+pub fn desk_table_refs(table: &[u8], source: &[u8], root: u32, out: &mut [u8]) -> u64
     ensures { AnswersC (root_rules table.now (length source.now) root) reference_row
         (table_refs source.now table.now root) out.old result out.new }
 {
@@ -103,8 +94,7 @@ pub extern "C" fn desk_table_refs(table: &[u8], source: &[u8], root: u32, out: &
 }
 
 // The records above a record of any kind, nearest first. High half of an answer: the entries written.
-#[unsafe(no_mangle)]
-pub extern "C" fn desk_records_above(
+pub fn desk_records_above(
     table: &[u8],
     source: &[u8],
     record: u32,
