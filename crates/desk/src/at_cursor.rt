@@ -43,12 +43,7 @@ pub fn desk_cursor_root(table: &[u8], source: &[u8], offset: u32) -> u64
 
 // The WITH names offered at the offset: those of the cursor's root, then those that it sees of the queries around it. High half of an answer: the
 // entries written.
-pub fn desk_with_names_at(
-    table: &[u8],
-    source: &[u8],
-    offset: u32,
-    out: &mut [u8],
-) -> u64
+pub fn desk_with_names_at(table: &[u8], source: &[u8], offset: u32, out: &mut [u8]) -> u64
     ensures { AnswersC (rules table.now (length source.now) 0) binding_row
         (with_names_at source.now table.now offset) out.old result out.new }
 {
@@ -56,12 +51,7 @@ pub fn desk_with_names_at(
 }
 
 // The table aliases offered at the offset. High half of an answer: the entries written.
-pub fn desk_table_aliases_at(
-    table: &[u8],
-    source: &[u8],
-    offset: u32,
-    out: &mut [u8],
-) -> u64
+pub fn desk_table_aliases_at(table: &[u8], source: &[u8], offset: u32, out: &mut [u8]) -> u64
     ensures { AnswersC (rules table.now (length source.now) 0) binding_row
         (table_aliases source.now table.now (root_at table.now offset)) out.old result out.new }
 {
@@ -69,12 +59,7 @@ pub fn desk_table_aliases_at(
 }
 
 // The column aliases offered at the offset. High half of an answer: the entries written.
-pub fn desk_column_aliases_at(
-    table: &[u8],
-    source: &[u8],
-    offset: u32,
-    out: &mut [u8],
-) -> u64
+pub fn desk_column_aliases_at(table: &[u8], source: &[u8], offset: u32, out: &mut [u8]) -> u64
     ensures { AnswersC (rules table.now (length source.now) 0) binding_row
         (column_aliases source.now table.now (root_at table.now offset)) out.old result out.new }
 {
@@ -82,12 +67,7 @@ pub fn desk_column_aliases_at(
 }
 
 // The table references offered at the offset. High half of an answer: the entries written.
-pub fn desk_table_refs_at(
-    table: &[u8],
-    source: &[u8],
-    offset: u32,
-    out: &mut [u8],
-) -> u64
+pub fn desk_table_refs_at(table: &[u8], source: &[u8], offset: u32, out: &mut [u8]) -> u64
     ensures { AnswersC (rules table.now (length source.now) 0) reference_row
         (table_refs source.now table.now (root_at table.now offset)) out.old result out.new }
 {
@@ -95,12 +75,7 @@ pub fn desk_table_refs_at(
 }
 
 // What is being typed at the offset, as a list of one entry. High half of an answer: 1.
-pub fn desk_cursor_context(
-    table: &[u8],
-    source: &[u8],
-    offset: u32,
-    out: &mut [u8],
-) -> u64
+pub fn desk_cursor_context(table: &[u8], source: &[u8], offset: u32, out: &mut [u8]) -> u64
     ensures { AnswersC (rules table.now (length source.now) 0) context_row
         (context_at source.now table.now offset ∷ []) out.old result out.new }
 {
@@ -111,12 +86,7 @@ pub fn desk_cursor_context(
 }
 
 // What is being typed at each of the offsets, of four bytes each. High half of an answer: the entries written.
-pub fn desk_cursor_contexts(
-    table: &[u8],
-    source: &[u8],
-    offsets: &[u8],
-    out: &mut [u8],
-) -> u64
+pub fn desk_cursor_contexts(table: &[u8], source: &[u8], offsets: &[u8], out: &mut [u8]) -> u64
     ensures { AnswersC (offset_rules table.now (length source.now) (length offsets.now)) context_row
         (contexts_at source.now table.now offsets.now) out.old result out.new }
 {

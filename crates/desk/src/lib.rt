@@ -94,12 +94,7 @@ pub fn desk_table_refs(table: &[u8], source: &[u8], root: u32, out: &mut [u8]) -
 }
 
 // The records above a record of any kind, nearest first. High half of an answer: the entries written.
-pub fn desk_records_above(
-    table: &[u8],
-    source: &[u8],
-    record: u32,
-    out: &mut [u8],
-) -> u64
+pub fn desk_records_above(table: &[u8], source: &[u8], record: u32, out: &mut [u8]) -> u64
     ensures { AnswersC (number_rules table.now (length source.now) «record») above_row
         (above table.now «record») out.old result out.new }
 {

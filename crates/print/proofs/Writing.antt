@@ -193,5 +193,5 @@ module _ (letter n w : ℕ) where
         let f : words (row_bytes (row e) ++ (list_bytes row es ++ rest)) 0 w ≡ row e = rw (← wide e) (words_row (row e) (list_bytes row es ++ rest) h.0) in
         let g : list_bytes row (e ∷ es) ++ rest ≡ row_bytes (row e) ++ (list_bytes row es ++ rest) = append_assoc (row_bytes (row e)) (list_bytes row es) rest in
         let shifted : printed_words letter n w (row_bytes (row e) ++ (list_bytes row es ++ rest)) 0 (suc (length es)) ≡ printed_list letter n (map row (e ∷ es)) =
-            rw (a, f, printed-shift (row_bytes (row e)) (list_bytes row es ++ rest) 0 (length es), printed-are es rest h.1) in
+        rw (a, f, printed-shift (row_bytes (row e)) (list_bytes row es ++ rest) 0 (length es), printed-are es rest h.1) in
         ap (λ (l : List ℕ). printed_words letter n w l 0 (suc (length es))) g ∙ shifted

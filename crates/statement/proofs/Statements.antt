@@ -2,7 +2,7 @@
 --     none-exactly    none is given exactly if no candidate exists
 --     given-first     otherwise the node given is the first innermost candidate in the document
 -- Assumes nothing.
-use Prim.Native.Nat.{ℕ, ◌+◌}
+use Prim.Native.Nat.{ℕ}
 use mathlib.Core.Path.{◌≡◌, refl, sym, ap, ◌∙◌}
 use mathlib.Core.Logic.{⊎_elim}
 use mathlib.Core.Bool.{Bool, true, false, cond}

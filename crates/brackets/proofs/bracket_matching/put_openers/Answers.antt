@@ -1,6 +1,6 @@
 use Rattle.brackets.proofs.BracketLaws.{opener-none, opener-put}
 use mathlib.Core.Path.{◌≡◌, refl}
-use Prim.Native.Nat.{◌-◌, ◌*◌}
+use Prim.Native.Nat.{◌*◌}
 use native.Mathlib.Omega.{arith}
 use Rattle.brackets.proofs.bracket_matching.put_openers.Goals as goal
 

@@ -1,4 +1,3 @@
-use Prim.Native.Nat.{◌-◌}
 use native.Mathlib.Omega.{arith}
 use Rattle.brackets.proofs.OneByOne.{stack-first, stack-child, stack-last}
 use Rattle.brackets.proofs.bracket_matching.stack_left.Goals as goal

@@ -1,6 +1,6 @@
 use Rattle.clauses.proofs.ClauseLaws.{Unmet, unmet-start, unmet-found, unmet-on}
 use mathlib.Core.Path.{◌∙◌}
-use Prim.Native.Nat.{◌+◌, ◌-◌}
+use Prim.Native.Nat.{◌+◌}
 use native.Mathlib.Omega.{arith}
 use Rattle.clauses.proofs.clauses.has_kind.Goals as goal
 

@@ -1,5 +1,4 @@
 use Rattle.clauses.proofs.ClauseLaws.{unmet-start, unmet-none, unmet-found, unmet-on}
-use Prim.Native.Nat.{◌-◌}
 use native.Mathlib.Omega.{arith}
 use Rattle.clauses.proofs.clauses.has_kind_from.Goals as goal
 

@@ -27,10 +27,10 @@ loop-i-smaller-then-hands_on t c = omega (arith, c.node_from-i-then-hands_on.ens
 pub loop-i-preserved-then-hands_on : goal.loop-i-preserved-then-hands_on
 loop-i-preserved-then-hands_on t c =
     let p = c.stretch_of-part.ensures.0 in (
-        omega arith,
-        node-on (writing as_row (collected _) _ _) (tokens-pass as_row _ _ _) c.loop-i.invariant.1 (omega arith) p (omega arith) c.node_from-i-then-hands_on.ensures
-            (λ f. writing-turn as_row (collected _) (collected _) _ _ (collected-node _ _ _ _ f _ (omega arith) p (hands-visited _ _ 0 _ (omega arith) p (omega arith) c.hands_on.ensures c.if-hands_on.true)) c.collect_scope-next.ensures.0),
-      )
+      omega arith,
+      node-on (writing as_row (collected _) _ _) (tokens-pass as_row _ _ _) c.loop-i.invariant.1 (omega arith) p (omega arith) c.node_from-i-then-hands_on.ensures
+          (λ f. writing-turn as_row (collected _) (collected _) _ _ (collected-node _ _ _ _ f _ (omega arith) p (hands-visited _ _ 0 _ (omega arith) p (omega arith) c.hands_on.ensures c.if-hands_on.true)) c.collect_scope-next.ensures.0),
+    )
 
 pub loop-i-smaller : goal.loop-i-smaller
 loop-i-smaller t c = omega (arith, c.node_from-i-else-hands_on.ensures.on)
@@ -38,10 +38,10 @@ loop-i-smaller t c = omega (arith, c.node_from-i-else-hands_on.ensures.on)
 pub loop-i-preserved : goal.loop-i-preserved
 loop-i-preserved t c =
     let p = c.stretch_of-part.ensures.0 in (
-        omega arith,
-        node-on (writing as_row (collected _) _ _) (tokens-pass as_row _ _ _) c.loop-i.invariant.1 (omega arith) p (omega arith) c.node_from-i-else-hands_on.ensures
-            (λ f. writing-turn as_row (collected _) (collected _) _ _ (quiet-node _ _ _ _ (omega arith) p (omega arith) c.hands_on.ensures _ f c.if-hands_on.false) (written_none as_row _ _)),
-      )
+      omega arith,
+      node-on (writing as_row (collected _) _ _) (tokens-pass as_row _ _ _) c.loop-i.invariant.1 (omega arith) p (omega arith) c.node_from-i-else-hands_on.ensures
+          (λ f. writing-turn as_row (collected _) (collected _) _ _ (quiet-node _ _ _ _ (omega arith) p (omega arith) c.hands_on.ensures _ f c.if-hands_on.false) (written_none as_row _ _)),
+    )
 
 pub returns : goal.returns
 returns t c =

@@ -1,5 +1,4 @@
 use Rattle.contexts.proofs.Clauses.{clause-none, clause-start, clause-end, clause-next}
-use Prim.Native.Nat.{◌-◌}
 use native.Mathlib.Omega.{arith}
 use Rattle.contexts.proofs.trailing.last_clause.Goals as goal
 

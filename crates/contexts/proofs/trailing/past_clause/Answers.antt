@@ -43,12 +43,13 @@ pub returns-in_default : goal.returns-in_default
 unfolding past_clause
 returns-in_default c =
     simp (
-    ne_eqb c.args.kind 18 (omega arith),
-    ne_eqb c.args.kind 19 (omega arith),
-    ne_eqb c.args.kind 20 (omega arith),
-    ne_eqb c.args.kind 21 (omega arith),
-    ne_eqb c.args.kind 22 (omega arith),
-    ne_eqb c.args.kind 16 (omega arith),
-    ne_eqb c.args.kind 15 (omega arith),
-    ne_eqb c.args.kind 23 (omega arith),
-    ne_eqb c.args.kind 26 (omega arith))
+      ne_eqb c.args.kind 18 (omega arith),
+      ne_eqb c.args.kind 19 (omega arith),
+      ne_eqb c.args.kind 20 (omega arith),
+      ne_eqb c.args.kind 21 (omega arith),
+      ne_eqb c.args.kind 22 (omega arith),
+      ne_eqb c.args.kind 16 (omega arith),
+      ne_eqb c.args.kind 15 (omega arith),
+      ne_eqb c.args.kind 23 (omega arith),
+      ne_eqb c.args.kind 26 (omega arith),
+    )

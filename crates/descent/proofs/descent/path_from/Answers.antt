@@ -3,9 +3,8 @@ use Rattle.path.proofs.StartLaws.{starts-level}
 use Rattle.path.proofs.Runs.{descent-run}
 use Rattle.path.specs.inner.Gathered.{nothing}
 use Rattle.forest.proofs.Descents.{descent-start, descent-walk, descent-on, descent-end}
-use Rattle.records.specs.Table.{kind_at, record_at}
+use Rattle.records.specs.Table.{record_at}
 use mathlib.Core.Path.{refl, sym, ◌∙◌}
-use Prim.Native.Nat.{◌-◌}
 use native.Mathlib.Omega.{arith}
 use Rattle.descent.proofs.descent.path_from.Goals as goal
 

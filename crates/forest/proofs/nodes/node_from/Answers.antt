@@ -1,5 +1,4 @@
 use Rattle.forest.proofs.NodeWalks.{seeking-start, seeking-none, seeking-here, seeking-deep, seeking-token, seeking-stop}
-use Prim.Native.Nat.{◌-◌}
 use native.Mathlib.Omega.{arith}
 use Rattle.forest.proofs.nodes.node_from.Goals as goal
 

@@ -1,5 +1,4 @@
 use Rattle.forest.proofs.Searches.{searching-start, searching-here, searching-on, searching-two, searching-three, searching-four, searching-then}
-use Prim.Native.Nat.{◌-◌}
 use native.Mathlib.Omega.{arith}
 use Rattle.forest.proofs.stretch.far_from.Goals as goal
 

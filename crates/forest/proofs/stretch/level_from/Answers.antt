@@ -1,5 +1,4 @@
 use Rattle.forest.proofs.Searches.{searching-start, searching-here, searching-on, searching-none}
-use Prim.Native.Nat.{◌-◌}
 use native.Mathlib.Omega.{arith}
 use Rattle.forest.proofs.stretch.level_from.Goals as goal
 

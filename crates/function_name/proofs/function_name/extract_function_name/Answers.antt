@@ -1,7 +1,6 @@
 use Rattle.function_name.proofs.Functions.{name-here, name-next}
 use Rattle.forest.proofs.Walking.{walks-none, walks-start, walks-end}
 use Rattle.tokens.specs.Function.{function_name}
-use Prim.Native.Nat.{◌-◌}
 use native.Mathlib.Omega.{arith}
 use Rattle.function_name.proofs.function_name.extract_function_name.Goals as goal
 

@@ -1,7 +1,6 @@
 use Rattle.function_name.proofs.Functions.{bare-here, bare-next}
 use Rattle.forest.proofs.Walking.{walks-none, walks-start, walks-end}
 use Rattle.tokens.specs.Function.{bare_word_in}
-use Prim.Native.Nat.{◌-◌}
 use native.Mathlib.Omega.{arith}
 use Rattle.function_name.proofs.function_name.first_bare_word.Goals as goal
 

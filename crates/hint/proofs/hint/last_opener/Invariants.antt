@@ -1,7 +1,7 @@
 use Rattle.brackets.specs.inner.BracketStack.{stack_of, last_by}
 use lib.ListN.{length}
 use mathlib.Core.Path.{◌≡◌}
-use Prim.Native.Nat.{◌-◌, ◌≤◌}
+use Prim.Native.Nat.{◌≤◌}
 use Rattle.hint.proofs.hint.last_opener.Given as goal
 
 abbrev pub invariant-loop-j : goal.invariant-loop-j

@@ -1,7 +1,7 @@
 use Rattle.in_order.proofs.Fast.{never, order-start, order-end}
 use borrow.Author.Tests.{leb-true, not-false}
 use mathlib.Core.Path.{◌≡◌, sym, ◌∙◌}
-use Prim.Native.Nat.{◌+◌, ◌-◌}
+use Prim.Native.Nat.{◌+◌}
 use native.Mathlib.Omega.{arith}
 use Rattle.in_order.proofs.in_order.all_in_order.Goals as goal
 

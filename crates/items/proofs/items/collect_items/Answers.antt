@@ -1,6 +1,5 @@
 use Rattle.items.proofs.ItemLaws.{pick-start, pick_end, pick-stop, pick-over, pick-on, pick-held, pick-item}
 use mathlib.Core.Path.{refl, sym, ◌∙◌}
-use Prim.Native.Nat.{◌-◌}
 use native.Mathlib.Omega.{arith}
 use Rattle.items.proofs.items.collect_items.Goals as goal
 

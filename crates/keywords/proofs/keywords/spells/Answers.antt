@@ -1,5 +1,4 @@
 use native.Mathlib.Omega.{arith}
-use Prim.Native.Nat.{◌-◌}
 use Rattle.text.proofs.Texts.{agree-end}
 use Rattle.keywords.proofs.WordLaws.{first-same, letter-differs, letter-same}
 use Rattle.keywords.proofs.keywords.spells.Goals as goal

@@ -1,6 +1,5 @@
 use Rattle.lent.proofs.Copies.{copied_none, copied-length, copied_next, copied_all}
 use mathlib.Core.Path.{refl}
-use Prim.Native.Nat.{◌-◌}
 use native.Mathlib.Omega.{arith}
 use Rattle.lent.proofs.list.copy_front.Goals as goal
 

@@ -1,5 +1,4 @@
 use Rattle.lent.proofs.Writes.{putting-start, putting-next, putting-end, putting-none}
-use Prim.Native.Nat.{◌-◌}
 use native.Mathlib.Omega.{arith}
 use Rattle.lent.proofs.list.put_entry.Goals as goal
 

@@ -1,6 +1,5 @@
-use Rattle.lines.proofs.Reading.{fails, passes, digits-next, digits-fail, digits-end}
+use Rattle.lines.proofs.Reading.{digits-next, digits-fail, digits-end}
 use mathlib.Core.Path.{refl, sym, ◌∙◌}
-use Prim.Native.Nat.{◌-◌}
 use native.Mathlib.Omega.{arith}
 use Rattle.lines.proofs.input.all_digits.Goals as goal
 

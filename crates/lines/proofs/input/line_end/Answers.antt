@@ -1,5 +1,4 @@
 use Rattle.lines.proofs.Reading.{span-next, span-found, span-end}
-use Prim.Native.Nat.{◌-◌}
 use native.Mathlib.Omega.{arith}
 use Rattle.lines.proofs.input.line_end.Goals as goal
 

@@ -1,6 +1,5 @@
 use Rattle.lines.proofs.Reading.{number-next, number-end, grown, roomy}
 use mathlib.Core.Path.{refl}
-use Prim.Native.Nat.{◌-◌}
 use native.Mathlib.Omega.{arith}
 use Rattle.lines.proofs.input.number.Goals as goal
 

@@ -2,7 +2,6 @@ use mathlib.Core.Path.{◌∙◌}
 use Rattle.names.proofs.NameLaws.{last-token, last-over, last_end}
 use Rattle.names.specs.Names.{alias_in}
 use Rattle.forest.proofs.Walks.{walk_start, walk_end, walk-next}
-use Prim.Native.Nat.{◌-◌}
 use Rattle.records.specs.Table.{record_at}
 use native.Mathlib.Omega.{arith}
 use Rattle.names.proofs.names.extract_alias_name.Goals as goal

@@ -2,8 +2,6 @@ use mathlib.Core.Path.{sym, ◌∙◌}
 use Rattle.names.proofs.NameLaws.{first-stop, first-end, first_on, first-over}
 use Rattle.names.specs.Names.{with_item}
 use Rattle.forest.proofs.Walks.{walk_start, walk_end, walk-next}
-use Prim.Native.Nat.{◌-◌}
-use Rattle.records.specs.Table.{record_at}
 use native.Mathlib.Omega.{arith}
 use Rattle.names.proofs.names.extract_cte.Goals as goal
 

@@ -1,8 +1,6 @@
 use Rattle.path.proofs.Runs.{run-start, run_on}
 use mathlib.Core.Path.{sym, ◌∙◌}
-use Prim.Native.Nat.{◌-◌}
 use native.Mathlib.Omega.{arith}
-use borrow.Author.Tests.{not-false}
 use Rattle.path.proofs.plain.run_down.Goals as goal
 
 pub returns-then-above-le-LAST_RULED : goal.returns-then-above-le-LAST_RULED

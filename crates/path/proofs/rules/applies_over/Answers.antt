@@ -19,6 +19,7 @@ pub returns-in_default : goal.returns-in_default
 unfolding applies_over
 returns-in_default c =
     simp (
-    ne_eqb c.args.rule 4 (omega arith),
-    ne_eqb c.args.rule 9 (omega arith),
-    ne_eqb c.args.rule 13 (omega arith))
+      ne_eqb c.args.rule 4 (omega arith),
+      ne_eqb c.args.rule 9 (omega arith),
+      ne_eqb c.args.rule 13 (omega arith),
+    )

@@ -56,15 +56,16 @@ pub returns-in_default : goal.returns-in_default
 unfolding gives given_by path_rules
 returns-in_default c =
     λ base. simp (
-    ne_eqb c.args.rule 2 (omega arith),
-    ne_eqb c.args.rule 3 (omega arith),
-    ne_eqb c.args.rule 4 (omega arith),
-    ne_eqb c.args.rule 5 (omega arith),
-    ne_eqb c.args.rule 6 (omega arith),
-    ne_eqb c.args.rule 7 (omega arith),
-    ne_eqb c.args.rule 8 (omega arith),
-    ne_eqb c.args.rule 9 (omega arith),
-    ne_eqb c.args.rule 10 (omega arith),
-    ne_eqb c.args.rule 11 (omega arith),
-    ne_eqb c.args.rule 12 (omega arith),
-    ne_eqb c.args.rule 13 (omega arith))
+      ne_eqb c.args.rule 2 (omega arith),
+      ne_eqb c.args.rule 3 (omega arith),
+      ne_eqb c.args.rule 4 (omega arith),
+      ne_eqb c.args.rule 5 (omega arith),
+      ne_eqb c.args.rule 6 (omega arith),
+      ne_eqb c.args.rule 7 (omega arith),
+      ne_eqb c.args.rule 8 (omega arith),
+      ne_eqb c.args.rule 9 (omega arith),
+      ne_eqb c.args.rule 10 (omega arith),
+      ne_eqb c.args.rule 11 (omega arith),
+      ne_eqb c.args.rule 12 (omega arith),
+      ne_eqb c.args.rule 13 (omega arith),
+    )

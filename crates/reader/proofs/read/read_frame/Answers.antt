@@ -1,5 +1,5 @@
 use Rattle.lines.specs.inner.Reading.{ReadFrame}
-use Rattle.lines.proofs.Reading.{fails, passes, no_source, no-offset, no_record, records-ruled, records-faulty, records-read, frame-source, frame-offset, frame-table, source-front, source-short, numbers-long}
+use Rattle.lines.proofs.Reading.{no_source, no-offset, no_record, records-ruled, records-faulty, records-read, frame-source, frame-offset, frame-table, source-front, source-short, numbers-long}
 use lib.ListN.{take, length-take}
 use lib.Seq.{length-take-le}
 use mathlib.Core.Path.{sym, ap, ◌∙◌}

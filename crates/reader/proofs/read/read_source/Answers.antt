@@ -1,7 +1,6 @@
 use Rattle.lines.proofs.Reading.{pairs_next, pairs_end}
 use lib.ListN.{length-set}
 use mathlib.Core.Path.{refl}
-use Prim.Native.Nat.{◌-◌}
 use native.Mathlib.Omega.{arith}
 use Rattle.reader.proofs.read.read_source.Goals as goal
 

@@ -1,9 +1,7 @@
 use Rattle.forest.proofs.Walking.{sweeps-end, sweeps-stop, sweeps-over}
 use Rattle.readings.proofs.Early.{swept-past}
 use Rattle.readings.proofs.Sweeping.{meant-nothing, meant-turn, swept_none, swept-start, swept-token, swept-node}
-use Prim.Native.Nat.{◌-◌}
 use mathlib.Core.Path.{refl, ◌∙◌}
-use borrow.Author.Tests.{not-true, not-false}
 use native.Mathlib.Omega.{arith}
 use Rattle.readings.proofs.sweep.sweep.Goals as goal
 

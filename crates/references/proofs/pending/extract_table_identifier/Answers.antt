@@ -1,9 +1,7 @@
 use Rattle.references.proofs.PendingLaws.{shifted_in, shifted_start, shifted-part, shifted-on, shifted-over, shifted_none, shifted-many, shifted-held, part-not}
-use Rattle.names.specs.Names.{is_part}
 use Rattle.forest.proofs.Walks.{walk_from, walk_end, walk-next}
 use Rattle.records.specs.Table.{record_at}
 use mathlib.Core.Path.{◌∙◌, sym}
-use Prim.Native.Nat.{◌-◌}
 use native.Mathlib.Omega.{arith}
 use Rattle.references.proofs.pending.extract_table_identifier.Goals as goal
 

@@ -2,7 +2,6 @@ use Rattle.references.proofs.PendingLaws.{one_or_two_in, parts-fresh, parts-part
 use Rattle.forest.proofs.Walks.{walk_start, walk_end, walk-next}
 use Rattle.records.specs.Table.{record_at}
 use mathlib.Core.Path.{◌∙◌, sym}
-use Prim.Native.Nat.{◌-◌}
 use native.Mathlib.Omega.{arith}
 use Rattle.references.proofs.pending.gives_reference.Goals as goal
 

@@ -1,5 +1,4 @@
 use mathlib.Core.Path.{refl, sym, ◌∙◌}
-use Prim.Native.Nat.{◌-◌}
 use Rattle.refusals.proofs.Checks.{checking-start, checking-misfit, fit-depth, checking-parent, checking-span, checking-next, checking-end}
 use native.Mathlib.Omega.{arith}
 use Rattle.refusals.proofs.by_record.check_records.Goals as goal

@@ -1,6 +1,5 @@
 use Rattle.starts.proofs.BegunLaws.{begun-next}
 use mathlib.Core.Path.{refl}
-use Prim.Native.Nat.{◌-◌}
 use native.Mathlib.Omega.{arith}
 use Rattle.starts.proofs.starts.pass_child.Goals as goal
 

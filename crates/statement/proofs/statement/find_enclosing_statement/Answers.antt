@@ -1,8 +1,7 @@
 use mathlib.Core.Path.{refl, sym, ◌∙◌}
 use mathlib.Core.Logic.{inl, inr}
-use Prim.Native.Nat.{◌+◌, ◌-◌, ◌≤◌}
+use Prim.Native.Nat.{◌+◌, ◌≤◌}
 use native.Mathlib.Omega.{arith}
-use borrow.Author.Tests.{not-true, not-false}
 use Rattle.statement.proofs.Passing.{pass-start, pass_on, pass-over, pass-past, pass-end}
 use Rattle.statement.proofs.Statements.{root-holds, root-outside}
 use Rattle.statement.proofs.statement.find_enclosing_statement.Goals as goal

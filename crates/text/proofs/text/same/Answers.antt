@@ -1,5 +1,4 @@
 use mathlib.Core.Path.{refl, sym}
-use Prim.Native.Nat.{◌-◌}
 use native.Mathlib.Omega.{arith}
 use Rattle.text.proofs.Texts.{differ, same_differs, same_next, same_end}
 use Rattle.text.proofs.text.same.Goals as goal

@@ -1,5 +1,4 @@
 use Rattle.text.proofs.Texts.{says-short, agree-start, agree_differ, agree-next, agree-end}
-use Prim.Native.Nat.{◌-◌}
 use native.Mathlib.Omega.{arith}
 use Rattle.text.proofs.text.says.Goals as goal
 

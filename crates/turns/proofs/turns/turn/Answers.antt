@@ -1,5 +1,4 @@
 use Rattle.tokens.specs.inner.Turns.{moved_to}
-use borrow.Author.Tests.{not-true, not-false}
 use native.Mathlib.Omega.{arith}
 use Rattle.turns.proofs.turns.turn.Goals as goal
 
