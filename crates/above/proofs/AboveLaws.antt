@@ -11,13 +11,13 @@ use native.Mathlib.Omega.{arith}
 use native.Mathlib.Nat.{mul-div_cancel}
 use borrow.Author.Tests.{lt-ltb, le-ltb}
 use lib.ListN.{length}
+use Rattle.std.specs.Prelude.{Ok, Err}
+use Rattle.lent.specs.declared.refusal.Condition.TheVariants.{NoRoom, NoRoot}
+use Rattle.lent.specs.declared.refusal.Refusal.{Refusal}
 use Rattle.records.specs.Table.{count, depth_at, parent_at}
 use Rattle.conditions.specs.Conditions.{most_records, no_such_record}
 use Rattle.table.specs.Rules.{rules, number_rules, verdict}
-use Rattle.lent.specs.Verdicts.{Rule, rule, first}
-use Rattle.lent.specs.declared.verdict.Verdict.{Verdict}
-use Rattle.lent.specs.declared.verdict.Verdict.TheVariants.{Admitted, Refused}
-use Rattle.lent.specs.declared.list.Listed.TheVariants.{Entries, Refused as Denied}
+use Rattle.lent.specs.Verdicts.{Rule, rule, first, Verdict, refused}
 use Rattle.lent.specs.Numbers.{number_bytes}
 use Rattle.lent.specs.Lists.{put, list_bytes, Written, Answers}
 use Rattle.forest.specs.Above.{above_among, above}
@@ -60,13 +60,13 @@ module _ (t : List ℕ) (n : ℕ) where
     sized = length-wide above_row number_bytes (λ b. refl) (above t n) ∙ rw (d, e)
 
     pub above-filled : (out : List ℕ) {out' : List ℕ} {m : ℕ} → Written above_row (above t n) out 0 out' m → k ≤ length out / number_bytes
-        → Answers [] above_row (above t n) out (Entries k) out'
+        → Answers [] above_row (above t n) out (Ok k) out'
     above-filled out {out'} {m} w h =
         let q : m ≡ k * number_bytes = omega (arith, w.next, sized) in
         let r : m / number_bytes ≡ k = rw q (mul-div_cancel k (omega arith)) in
         rw r at (list-filled above_row number_bytes (λ b. refl) (omega arith) [] (above t n) out refl w (omega arith))
 
-    pub above-short : (out : List ℕ) → length out / number_bytes < k → Answers [] above_row (above t n) out (Denied 7 k) out
+    pub above-short : (out : List ℕ) → length out / number_bytes < k → Answers [] above_row (above t n) out (refused NoRoom k) out
     above-short out h =
         let r : k * number_bytes / number_bytes ≡ k = mul-div_cancel k (omega arith) in
         rw r at (list-short above_row number_bytes (λ b. refl) (omega arith) [] (above t n) out refl (sym sized) (omega arith))
@@ -75,16 +75,16 @@ module _ (t : List ℕ) (n : ℕ) where
 
 module _ (t : List ℕ) (n i : ℕ) {v : Verdict} (e : v ≡ verdict t n 0) where
   abbrev last : List Rule
-  last = rule 8 0 (no_such_record t i) ∷ []
+  last = rule NoRoot 0 (no_such_record t i) ∷ []
 
-  pub number-refused : {k d : ℕ} → v ≡ Refused k d → Refused k d ≡ first (number_rules t n i)
+  pub number-refused : {r : Refusal} → v ≡ Err r → Err r ≡ first (number_rules t n i)
   number-refused q = then-refused (rules t n 0) last (rules-refused t n 0 e q)
 
-  pub number-none : v ≡ Admitted → count t ≤ i → Refused 8 0 ≡ first (number_rules t n i)
+  pub number-none : v ≡ Ok tt → count t ≤ i → refused NoRoot 0 ≡ first (number_rules t n i)
   number-none q h = sym (then-admitted (rules t n 0) last (rules-passed t n 0 e q) ∙ rw (le-ltb i (count t) h))
 
-  pub number-admitted : v ≡ Admitted → i < count t → Admitted ≡ first (number_rules t n i)
+  pub number-admitted : v ≡ Ok tt → i < count t → Ok tt ≡ first (number_rules t n i)
   number-admitted q h = sym (then-admitted (rules t n 0) last (rules-passed t n 0 e q) ∙ rw (lt-ltb i (count t) h))
 
-  pub climbed : v ≡ Admitted → i < count t → ((i < count t) × (count t ≤ most_records)) × Climbs t × Deep t i
+  pub climbed : v ≡ Ok tt → i < count t → ((i < count t) × (count t ≤ most_records)) × Climbs t × Deep t i
   climbed q h = let y = admitted-tidy t n 0 (sym e ∙ q) in ((h, y.few), climbs t n y, above-deep t n y i h)

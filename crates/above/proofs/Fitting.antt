@@ -6,7 +6,7 @@ use mathlib.Core.Path.{◌≡◌, sym}
 use mathlib.Core.List.{List, [], ◌∷◌}
 use native.Mathlib.Omega.{arith}
 use lib.ListN.{length}
-use Rattle.lent.specs.declared.verdict.Verdict.TheVariants.{Admitted}
+use Rattle.std.specs.Prelude.{Ok}
 use Rattle.lent.specs.Numbers.{word_limit}
 use Rattle.lent.specs.Fit32.{Fit32, AllFit32}
 use Rattle.records.specs.Table.{count}
@@ -22,7 +22,7 @@ unfolding AllBelow AllFit32 Fit32
 rows_fit [] w = tt
 rows_fit (x ∷ xs) w = ((w.0, tt), rows_fit xs w.1)
 
-module _ (t : List ℕ) (n m i : ℕ) (a : Admitted ≡ verdict t n m) (h : i < count t) where
+module _ (t : List ℕ) (n m i : ℕ) (a : Ok tt ≡ verdict t n m) (h : i < count t) where
   pub above-fits : AllFit32 above_row (above t i)
   above-fits = rows_fit (above t i) (above-below t i word_limit (omega (arith, (admitted-tidy t n m (sym a)).few)))
 

@@ -9,10 +9,9 @@ ghost use Rattle.forest.specs.inner.Climbing.{Climbs};
 ghost use Rattle.above.specs.Above.{above_row};
 ghost use Rattle.above.specs.inner.Deep.{Deep};
 
-use conditions::refusal::NO_ROOT;
-use lent::list::{Listed, put_entry};
+use lent::list::put_entry;
 use lent::number::NUMBER_BYTES;
-use lent::verdict::{NO_ROOM, Verdict};
+use lent::refusal::{Condition, Refusal, refused};
 use records::record::{count_of, depth_at, parent_at};
 use table::check::check;
 
@@ -23,6 +22,7 @@ fn collect_above(table: &[u8], n: usize, out: &mut [u8]) -> usize
 {
     let mut next = 0;
     let mut i = n;
+    // While, not for: a climb goes from a node to the one above it, and ends at the first record.
     while 0 < i {
         i = parent_at(table, i);
         next = put_entry(out, next, &[i]);
@@ -31,30 +31,26 @@ fn collect_above(table: &[u8], n: usize, out: &mut [u8]) -> usize
 }
 
 // Lists the records above record n of a table that is admitted: as many as it is deep.
-fn list_above(table: &[u8], n: usize, out: &mut [u8]) -> Listed
+fn list_above(table: &[u8], n: usize, out: &mut [u8]) -> Result<u32, Refusal>
     requires { ((n < count table.now) × (count table.now ≤ most_records)) × Climbs table.now × Deep table.now n }
     ensures { Answers [] above_row (above table.now n) out.old result out.new }
 {
     let entries = depth_at(table, n) as u32;
     if out.len() / NUMBER_BYTES < entries as usize {
-        return Listed::Refused(NO_ROOM, entries);
+        return refused(Condition::NoRoom, entries);
     }
     collect_above(table, n, out);
-    Listed::Entries(entries)
+    Ok(entries)
 }
 
 // The records above record n, node or token, nearest first.
-pub fn records_above(table: &[u8], source: &[u8], n: usize, out: &mut [u8]) -> Listed
+pub fn records_above(table: &[u8], source: &[u8], n: usize, out: &mut [u8]) -> Result<u32, Refusal>
     ensures { Answers (number_rules table.now (length source.now) n) above_row (above table.now n)
         out.old result out.new }
 {
-    match check(table, source) {
-        Verdict::Refused(k, d) => Listed::Refused(k, d),
-        Verdict::Admitted => {
-            if n < count_of(table) {
-                return list_above(table, n, out);
-            }
-            Listed::Refused(NO_ROOT, 0)
-        }
+    check(table, source)?;
+    if count_of(table) <= n {
+        return refused(Condition::NoRoot, 0);
     }
+    list_above(table, n, out)
 }

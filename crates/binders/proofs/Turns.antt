@@ -5,13 +5,14 @@ use mathlib.Core.Path.{◌≡◌, refl, sym, ◌∙◌}
 use mathlib.Core.Bool.{Bool, true, false}
 use mathlib.Core.List.{List, [], ◌++◌}
 use lib.Dec.{eqb}
+use Rattle.names.specs.declared.names.NameBinding.{NameBinding}
+use Rattle.std.specs.Prelude.{Option}
 use Rattle.records.specs.declared.record.Rec.{Rec}
 use Rattle.records.specs.Table.{count, kind_at, record_at, records, part}
 use Rattle.forest.specs.Forest.{Forest, nil, token, node, kids, stretch_end}
 use Rattle.lent.proofs.Writes.{written_none}
 use Rattle.forest.proofs.Laws.{head-part}
 use Rattle.forest.proofs.Writing.{writing, writing-turn}
-use Rattle.names.specs.declared.names.Bound.{Bound}
 use Rattle.binders.specs.declared.binders.Binder.{Binder}
 use Rattle.binders.specs.declared.binders.Binder.TheVariants.{Item, Alias}
 use Rattle.names.specs.Bindings.{entry, bound_in, with_items, select_aliases, binding_row}
@@ -28,7 +29,7 @@ module _ (binder : Binder) (src s : List ℕ) (base i : ℕ) (f : Forest) where
     kind-list : {x : Bool} → x ≡ is_list binder k → is_list binder (record_at s base i).kind ≡ x
     kind-list q = rw (kind-of s base i, ← e) (sym q)
 
-    pub names-bind : {x : Bool} {b : Bound} {p : List ℕ} → i < count s → p ≡ part s i (stretch_end s i) → x ≡ eqb k (binder_kind binder) → x ≡ true
+    pub names-bind : {x : Bool} {b : Option NameBinding} {p : List ℕ} → i < count s → p ≡ part s i (stretch_end s i) → x ≡ eqb k (binder_kind binder) → x ≡ true
         → b ≡ binds binder src (record_at p (base + i) 0) (kids (records (base + i) p))
         → names binder src (node (record_at s base i) (kids (records (base + i) p)) f) ≡ entry b ++ names binder src f
     unfolding bound_in

@@ -1,17 +1,13 @@
 // What the WITH items and the column aliases of a clause bind, written as entries: one walk for both.
 ghost use Rattle.std.specs.Prelude.{◌≡◌, ◌+◌, ◌*◌, ◌≤◌, ◌<◌, eqb};
-ghost use Rattle.records.specs.Table.{count, record_at, records};
-ghost use Rattle.forest.specs.Forest.{kids};
-ghost use Rattle.conditions.specs.Conditions.{most_records};
+ghost use Rattle.forest.specs.Parts.{size, head, below};
 ghost use Rattle.lent.specs.Lists.{farthest, Written};
 ghost use Rattle.names.specs.Bindings.{entry, with_items, select_aliases, binding_bytes, binding_row};
 ghost use Rattle.binders.specs.inner.Binders.{binder_kind, is_list, binds, names};
 
-use forest::nodes::node_from;
-use forest::stretch::stretch_of;
+use forest::part::Part;
 use names::bindings::{put_alias_name, put_cte};
 use records::kinds::{COLUMN_ALIAS, COLUMN_LIST, EXPRESSION_LIST, WITH_EXPRESSION_ITEM};
-use records::record::{count_of, kind_at};
 
 // What binds the names of a list: a WITH item or a column alias.
 #[derive(Clone, Copy)]
@@ -40,80 +36,61 @@ fn is_list(binder: Binder, k: usize) -> bool
     }
 }
 
-// Writes what the first record of the stretch s binds.
-fn put_name(
-    binder: Binder,
-    s: &[u8],
-    base: usize,
-    source: &[u8],
-    out: &mut [u8],
-    at: usize,
-) -> usize
-    requires { (0 < count s.now) × (base + count s.now ≤ most_records) × (at < farthest) }
+// Writes what the first record of the part binds.
+fn put_name(binder: Binder, part: &Part, source: &[u8], out: &mut [u8], at: usize) -> usize
+    requires { at < farthest }
     ensures { Written binding_row
-        (entry (binds binder source.now (record_at s.now base 0) (kids (records base s.now))))
+        (entry (binds binder source.now (head part.now) (below part.now)))
         out.old at out.new result × (result ≤ at + binding_bytes) }
 {
     match binder {
-        Binder::Item => put_cte(s, base, source, out, at),
-        Binder::Alias => put_alias_name(s, base, source, out, at),
+        Binder::Item => put_cte(part, source, out, at),
+        Binder::Alias => put_alias_name(part, source, out, at),
     }
 }
 
-// Writes what the children of the stretch's first record bind into out from byte `at` on, also those in lists, and returns where the
-// next entry goes. The stretch's first record has the number base.
-fn collect_bound(
-    binder: Binder,
-    s: &[u8],
-    base: usize,
-    source: &[u8],
-    out: &mut [u8],
-    at: usize,
-) -> usize
-    requires { (0 < count s.now) × (base + count s.now ≤ most_records) × (at + binding_bytes * count s.now < farthest) }
-    ensures { Written binding_row (names binder source.now (kids (records base s.now))) out.old at out.new result
-        × (result ≤ at + binding_bytes * count s.now) }
+// Writes what the children of the part's first record bind into out from byte `at` on, also those in lists, and returns where the
+// next entry goes.
+fn collect_bound(binder: Binder, part: &Part, source: &[u8], out: &mut [u8], at: usize) -> usize
+    requires { at + binding_bytes * size part.now < farthest }
+    ensures { Written binding_row (names binder source.now (below part.now)) out.old at out.new result
+        × (result ≤ at + binding_bytes * size part.now) }
 {
-    let m = count_of(s);
+    let m = part.count();
     let mut next = at;
-    let mut i = node_from(s, 1);
+    let mut i = part.node_from(1);
+    // While, not for: the next child begins where the records of this one end.
     while i < m {
-        let kind = kind_at(s, i);
+        let kind = part.kind_at(i);
         if is_binder(binder, kind) {
-            let part = stretch_of(s, i);
-            next = put_name(binder, part, base + i, source, out, next);
-            i = node_from(s, i + count_of(part));
+            let child = part.stretch_of(i);
+            next = put_name(binder, &child, source, out, next);
+            i = part.node_from(i + child.count());
         } else if is_list(binder, kind) {
-            let part = stretch_of(s, i);
-            next = collect_bound(binder, part, base + i, source, out, next);
-            i = node_from(s, i + count_of(part));
+            let child = part.stretch_of(i);
+            next = collect_bound(binder, &child, source, out, next);
+            i = part.node_from(i + child.count());
         } else {
-            i = node_from(s, i + 1);
+            i = part.node_from(i + 1);
         }
     }
     next
 }
 
-// The items of a WITH clause, the first record of the stretch s.
-pub fn collect_ctes(s: &[u8], base: usize, source: &[u8], out: &mut [u8], at: usize) -> usize
-    requires { (0 < count s.now) × (base + count s.now ≤ most_records) × (at + binding_bytes * count s.now < farthest) }
-    ensures { Written binding_row (with_items source.now (kids (records base s.now))) out.old at out.new result
-        × (result ≤ at + binding_bytes * count s.now) }
+// The items of a WITH clause, the first record of the part.
+pub fn collect_ctes(part: &Part, source: &[u8], out: &mut [u8], at: usize) -> usize
+    requires { at + binding_bytes * size part.now < farthest }
+    ensures { Written binding_row (with_items source.now (below part.now)) out.old at out.new result
+        × (result ≤ at + binding_bytes * size part.now) }
 {
-    collect_bound(Binder::Item, s, base, source, out, at)
+    collect_bound(Binder::Item, part, source, out, at)
 }
 
-// The column aliases of a SELECT clause, the first record of the stretch s.
-pub fn collect_column_aliases(
-    s: &[u8],
-    base: usize,
-    source: &[u8],
-    out: &mut [u8],
-    at: usize,
-) -> usize
-    requires { (0 < count s.now) × (base + count s.now ≤ most_records) × (at + binding_bytes * count s.now < farthest) }
-    ensures { Written binding_row (select_aliases source.now (kids (records base s.now))) out.old at out.new result
-        × (result ≤ at + binding_bytes * count s.now) }
+// The column aliases of a SELECT clause, the first record of the part.
+pub fn collect_column_aliases(part: &Part, source: &[u8], out: &mut [u8], at: usize) -> usize
+    requires { at + binding_bytes * size part.now < farthest }
+    ensures { Written binding_row (select_aliases source.now (below part.now)) out.old at out.new result
+        × (result ≤ at + binding_bytes * size part.now) }
 {
-    collect_bound(Binder::Alias, s, base, source, out, at)
+    collect_bound(Binder::Alias, part, source, out, at)
 }

@@ -9,25 +9,22 @@ use native.Mathlib.Omega.{arith}
 use native.Mathlib.Numerals.{add-one}
 use borrow.Author.Tests.{le-leb, lt-leb, eq-eqb, ne_eqb, eqb-true}
 use lib.Dec.{eqb}
-use lib.ListN.{length, get_or, set, take, drop, length-take, length-drop, length-map, take-append-drop}
-use lib.Seq.{get_or-set_same, get_or-set_other, take-suc, take_all, take-length, take-append-le, length-take-le}
+use lib.ListN.{length, get_or, set, take, drop, length-take, length-map, length-reverse, take-append-drop}
+use lib.Seq.{get_or-set_same, get_or-set_other, take-suc, take-length, take-append-le}
+use Rattle.std.specs.Prelude.{Ok}
+use Rattle.lent.specs.declared.refusal.Condition.TheVariants.{NoRoom}
+use Rattle.lent.specs.Verdicts.{refused}
 use Rattle.records.specs.declared.record.Rec.{Rec}
 use Rattle.records.specs.Table.{records}
 use Rattle.forest.specs.Forest.{Forest, nil, token, node, kids}
-use Rattle.lent.specs.declared.verdict.Verdict.{Verdict}
-use Rattle.lent.specs.declared.verdict.Verdict.TheVariants.{Admitted, Refused}
-use Rattle.brackets.specs.declared.bracket_matching.HintReply.TheVariants.{Hinted, Refused as Away}
-use Rattle.lent.specs.declared.list.Listed.TheVariants.{Entries, Refused as Denied}
 use Rattle.lent.specs.Numbers.{number_bytes}
 use Rattle.lent.specs.Lists.{put, Written, listed, lent}
 use Rattle.text.specs.Text.{same}
 use Rattle.lent.proofs.Cases.{lt-or-le, eq-or-not, both}
 use Rattle.text.proofs.Texts.{differ}
 use Rattle.lent.proofs.Writes.{written_none, written_one, written_then, length-wide, list-filled, list-short}
-use Rattle.brackets.specs.Brackets.{fits, closed, stack_step, left, stack_left, index_of, openers_left, opener_row, holding, last_opener, hint_of, hinted, StandsIn}
+use Rattle.brackets.specs.Brackets.{fits, closed, stack_step, left, stack_left, index_of, openers_left, opener_row, holding, last_opener, hint_of, StandsIn}
 use Rattle.brackets.specs.inner.BracketStack.{stacked, unpacked, stack_of, closed_by, stepped_by, left_by, last_by, hint_by}
-use Rattle.brackets.specs.declared.bracket_matching.Hint.{Hint}
-use Rattle.brackets.specs.declared.bracket_matching.Hint.TheVariants.{Opener, NoOpener}
 
 -- ---- the array
 
@@ -45,37 +42,50 @@ unfolding stack_of
 stack_top array zero h = absurd (omega arith)
 stack_top array (suc n) h = let e : suc n - 1 ≡ n = omega arith in rw e
 
--- ---- one step of the code
+pub stack-length : (array : List ℕ) (n : ℕ) → length (stack_of array n) ≡ n
+unfolding stack_of
+stack-length array zero = refl
+stack-length array (suc n) = rw (stack-length array n)
 
-module _ (array : List ℕ) (n k i : ℕ) where
-  pub step-low : k < 137 → stack_of array n ≡ stepped_by (stack_of array n) k i
-  unfolding stepped_by
-  step-low h = rw (lt-leb 137 k h, lt-leb 140 k (omega arith))
+-- ---- one step of the code, on a stack st that the array's first n elements are
 
-  pub step-high : 142 < k → stack_of array n ≡ stepped_by (stack_of array n) k i
-  unfolding stepped_by
-  step-high h = rw (le-leb 137 k (omega arith), lt-leb k 139 (omega arith), le-leb 140 k (omega arith), lt-leb k 142 h)
+pub step-low : (st : List ℕ) (k i : ℕ) → k < 137 → st ≡ stepped_by st k i
+unfolding stepped_by
+step-low st k i h = rw (lt-leb 137 k h, lt-leb 140 k (omega arith))
 
-  pub step-open : n < length array → 137 ≤ k → k ≤ 139 → stack_of (set array n (stacked k i)) (n + 1) ≡ stepped_by (stack_of array n) k i
+pub step-high : (st : List ℕ) (k i : ℕ) → 142 < k → st ≡ stepped_by st k i
+unfolding stepped_by
+step-high st k i h = rw (le-leb 137 k (omega arith), lt-leb k 139 (omega arith), le-leb 140 k (omega arith), lt-leb k 142 h)
+
+module _ (array : List ℕ) (n k i : ℕ) {st : List ℕ} (v : stack_of array n ≡ st) where
+  pub step-open : n < length array → 137 ≤ k → k ≤ 139
+      → (stack_of (set array n (stacked k i)) (n + 1) ≡ stepped_by st k i) × (length (stack_of (set array n (stacked k i)) (n + 1)) ≤ length st + 1)
   unfolding stepped_by
-  step-open l h g = rw (le-leb 137 k h, le-leb k 139 g) (stack_push array n (stacked k i) l)
+  step-open l h g = (
+    rw (← v, le-leb 137 k h, le-leb k 139 g) (stack_push array n (stacked k i) l),
+    omega (arith, stack-length (set array n (stacked k i)) (n + 1), stack-length array n, ap length v),
+  )
 
   module _ (h : 139 < k) (g : k ≤ 142) where
-    closes : (st : List ℕ) → stepped_by st k i ≡ closed_by st k
+    closes : stepped_by st k i ≡ closed_by st k
     unfolding stepped_by
-    closes st = rw (le-leb 137 k (omega arith), lt-leb k 139 h, le-leb 140 k (omega arith), le-leb k 142 g)
+    closes = rw (le-leb 137 k (omega arith), lt-leb k 139 h, le-leb 140 k (omega arith), le-leb k 142 g)
 
-    pub step-empty : n ≡ 0 → stack_of array n ≡ stepped_by (stack_of array n) k i
+    pub step-empty : n ≡ 0 → st ≡ stepped_by st k i
     unfolding stack_of closed_by
-    step-empty e = rw (closes (stack_of array n), e)
+    step-empty e = rw (closes, ← v, e)
 
-    pub step-pop : 0 < n → get_or array (n - 1) 0 % 4 ≡ k - 140 → stack_of array (n - 1) ≡ stepped_by (stack_of array n) k i
+    pub step-pop : 0 < n → get_or array (n - 1) 0 % 4 ≡ k - 140
+        → (stack_of array (n - 1) ≡ stepped_by st k i) × (length (stack_of array (n - 1)) ≤ length st + 1)
     unfolding closed_by
-    step-pop p e = rw (closes (stack_of array n), stack_top array n p, eq-eqb (get_or array (n - 1) 0 % 4) (k - 140) e)
+    step-pop p e = (
+      rw (closes, ← v, stack_top array n p, eq-eqb (get_or array (n - 1) 0 % 4) (k - 140) e),
+      omega (arith, stack-length array (n - 1), stack-length array n, ap length v),
+    )
 
-    pub step-drop : 0 < n → (get_or array (n - 1) 0 % 4 ≡ k - 140 → ⊥) → stack_of array n ≡ stepped_by (stack_of array n) k i
+    pub step-drop : 0 < n → (get_or array (n - 1) 0 % 4 ≡ k - 140 → ⊥) → st ≡ stepped_by st k i
     unfolding closed_by
-    step-drop p e = rw (closes (stack_of array n), stack_top array n p, ne_eqb (get_or array (n - 1) 0 % 4) (k - 140) e)
+    step-drop p e = rw (closes, ← v, stack_top array n p, ne_eqb (get_or array (n - 1) 0 % 4) (k - 140) e)
 
 -- ---- the array's stack is the definition's
 
@@ -171,7 +181,7 @@ left-pack (node r below rest) stack w =
 -- ---- the list of openers
 
 -- the array from its start is the stack from its bottom
-take-stack : (array : List ℕ) (n : ℕ) → n ≤ length array → take n array ≡ reverse (stack_of array n)
+pub take-stack : (array : List ℕ) (n : ℕ) → n ≤ length array → take n array ≡ reverse (stack_of array n)
 unfolding stack_of
 take-stack array zero h = refl
 take-stack array (suc n) h =
@@ -189,15 +199,15 @@ unpack-all (o ∷ stack) w =
     let e : stacked o.kind o.index / 4 ≡ o.index = omega (arith, w.0.0, w.0.1) in
     rw (e, unpack-all stack w.1)
 
--- what the walk leaves in the array is the stack of the tree
-module _ (t array : List ℕ) (n : ℕ) (e : stack_of array n ≡ left_by [] (kids (records 0 t))) where
+-- what the walk leaves is the stack of the tree
+module _ (t : List ℕ) {st : List ℕ} (e : st ≡ left_by [] (kids (records 0 t))) where
   is-left : (map pack (stack_left t) ≡ left_by [] (kids (records 0 t))) × Open (stack_left t)
   is-left = left-pack (kids (records 0 t)) [] (unfold Open in tt)
 
-  pub openers-are : n ≤ length array → map unpacked (take n array) ≡ openers_left t
-  openers-are h =
+  pub openers-are : map unpacked (reverse st) ≡ openers_left t
+  openers-are =
       let w = is-left in
-      rw (take-stack array n h, e, ← w.0) (map-onto unpacked (map pack (stack_left t)) [] ∙ rw (unpack-all (stack_left t) w.1) (sym (map-onto index_of (stack_left t) [])))
+      rw (e, ← w.0) (map-onto unpacked (map pack (stack_left t)) [] ∙ rw (unpack-all (stack_left t) w.1) (sym (map-onto index_of (stack_left t) [])))
 
 -- ---- an entry more
 module _ (array : List ℕ) (j : ℕ) {out out' out'' : List ℕ} {at at' v : ℕ} where
@@ -213,20 +223,6 @@ opener-none array out = written_none opener_row out 0
 
 -- ---- the last opener of a shape
 
-module _ (array : List ℕ) (shape : ℕ) {h : Hint} where
-  pub last_none : (j : ℕ) → j ≡ 0 → h ≡ last_by shape (stack_of array j) → NoOpener ≡ h
-  unfolding last_by stack_of
-  last_none j z e = sym (e ∙ rw z)
-
-  module _ (j : ℕ) (p : 0 < j) (e : h ≡ last_by shape (stack_of array j)) where
-    pub last-here : get_or array (j - 1) 0 % 4 ≡ shape → Opener (get_or array (j - 1) 0 / 4) ≡ h
-    unfolding last_by
-    last-here q = sym (e ∙ rw (stack_top array j p, eq-eqb (get_or array (j - 1) 0 % 4) shape q))
-
-    pub last_on : (get_or array (j - 1) 0 % 4 ≡ shape → ⊥) → h ≡ last_by shape (stack_of array (j - 1))
-    unfolding last_by
-    last_on q = e ∙ rw (stack_top array j p, ne_eqb (get_or array (j - 1) 0 % 4) shape q)
-
 last-pack : (k : ℕ) (stack : List Rec) → Open stack → 137 ≤ k → last_by (k - 137) (map pack stack) ≡ last_opener k stack
 unfolding last_by last_opener Open
 last-pack k [] w h = refl
@@ -239,11 +235,11 @@ last-pack k (o ∷ stack) w h =
     (λ q. rw (ne_eqb o.kind k q, ne_eqb (o.kind - 137) (k - 137) (λ z. q (omega (arith, w.0.0)))))
     (eq-or-not o.kind k))
 
-module _ (t array m : List ℕ) (n : ℕ) (e : stack_of array n ≡ left_by [] (kids (records 0 t))) where
-  pub hint-is : hint_by m (stack_of array n) ≡ hint_of m (stack_left t)
+module _ (t m : List ℕ) {st : List ℕ} (e : st ≡ left_by [] (kids (records 0 t))) where
+  pub hint-is : hint_by m st ≡ hint_of m (stack_left t)
   unfolding hint_by hint_of
   hint-is =
-      let w = is-left t array n e in
+      let w = is-left t e in
       rw (e, ← w.0, last-pack 137 (stack_left t) w.1 (omega arith), last-pack 138 (stack_left t) w.1 (omega arith), last-pack 139 (stack_left t) w.1 (omega arith))
 
 -- ---- a message that holds a word
@@ -258,48 +254,26 @@ holding-cons : (w : List ℕ) (b : ℕ) (m : List ℕ) → holding w (b ∷ m) �
 unfolding holding
 holding-cons w b m = refl
 
-holding-turn : (w m : List ℕ) → 0 < length w → length w ≤ length m → holding w m ≡ (same (take (length w) m) w || holding w (drop 1 m))
-holding-turn w [] p h = absurd (omega arith)
-holding-turn w (b ∷ m) p h = holding-cons w b m
+pub holding-none : (w m : List ℕ) {t : Bool} → t ≡ holding w m → length m < length w → false ≡ t
+holding-none w m e h = sym (e ∙ holding-short w m h)
 
-module _ (w m : List ℕ) {t : Bool} (e : t ≡ holding w m) where
-  pub holding-none : length m < length w → false ≡ t
-  holding-none h = sym (e ∙ holding-short w m h)
+-- ---- the questions, from what the walk left
 
-  module _ (p : 0 < length w) (h : length w ≤ length m) {s : Bool} (q : s ≡ same (take (length w) m) w) where
-    pub holding-here : s ≡ true → true ≡ t
-    holding-here y = sym (e ∙ holding-turn w m p h ∙ rw (← q, y))
-
-    pub holding-on : s ≡ false → t ≡ holding w (take (length m - 1) (drop 1 m))
-    holding-on y =
-        e ∙ holding-turn w m p h
-        ∙ rw (← q, y) (ap (holding w) (sym (take_all (length m - 1) (drop 1 m) (rw (length-drop 1 m) (omega arith)))))
-
--- ---- the questions, from what the walk left in the array
-
-module _ (t array out : List ℕ) (n : ℕ) (e : stack_of array n ≡ left_by [] (kids (records 0 t))) (h : n ≤ length array) where
+module _ (t out : List ℕ) {st : List ℕ} {n : ℕ} (e : st ≡ left_by [] (kids (records 0 t))) (h : n ≡ length st) where
   fours : 4 * n / 4 ≡ n
   fours = omega arith
 
-  pub openers-short : length out < 4 * n → (Denied 7 n ≡ listed [] opener_row (openers_left t) out) × (out ≡ lent [] opener_row (openers_left t) out)
+  pub openers-short : length out < 4 * n → (refused NoRoom n ≡ listed [] opener_row (openers_left t) out) × (out ≡ lent [] opener_row (openers_left t) out)
   openers-short g =
-      let l : length (openers_left t) ≡ n = ap length (sym (openers-are t array n e h)) ∙ length-map (take n array) unpacked ∙ length-take-le n array h in
+      let l : length (openers_left t) ≡ n = ap length (sym (openers-are t e)) ∙ length-map (reverse st) unpacked ∙ length-reverse st ∙ sym h in
       let r = list-short opener_row 4 (λ x. refl) (omega arith) [] (openers_left t) out refl {m = 4 * n} (omega (arith, length-wide opener_row 4 (λ x. refl) (openers_left t))) g in
       rw fours at r
 
-  pub openers-full : {out' : List ℕ} → Written opener_row (map unpacked (take n array)) out 0 out' (4 * n) → 4 * n ≤ length out
-      → (Entries n ≡ listed [] opener_row (openers_left t) out) × (out' ≡ lent [] opener_row (openers_left t) out)
+  pub openers-full : {out' : List ℕ} → Written opener_row (map unpacked (reverse st)) out 0 out' (4 * length st) → 4 * n ≤ length out
+      → (Ok n ≡ listed [] opener_row (openers_left t) out) × (out' ≡ lent [] opener_row (openers_left t) out)
   openers-full w g =
-      let r = list-filled opener_row 4 (λ x. refl) (omega arith) [] (openers_left t) out refl (rw (openers-are t array n e h) at w) g in
+      let r = list-filled opener_row 4 (λ x. refl) (omega arith) [] (openers_left t) out refl (rw (openers-are t e, ← h) at w) g in
       rw fours at r
-
-pub hinted-refused : {v : Verdict} (h : Hint) {k d : ℕ} → Refused k d ≡ v → Away k d ≡ hinted v h
-unfolding hinted
-hinted-refused h e = rw (← e)
-
-pub hinted-admitted : {v : Verdict} {h g : Hint} → Admitted ≡ v → g ≡ h → Hinted g ≡ hinted v h
-unfolding hinted
-hinted-admitted e q = rw (← e, q)
 
 -- ---- holding, in plain words: the word stands in the message between two parts of it
 

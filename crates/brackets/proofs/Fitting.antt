@@ -8,7 +8,7 @@ use mathlib.Core.List.{List, [], ◌∷◌, map, reverse, reverse_aux}
 use native.Mathlib.Omega.{arith}
 use lib.Dec.{eqb}
 use lib.ListN.{length, length-map, length-reverse}
-use Rattle.lent.specs.declared.verdict.Verdict.TheVariants.{Admitted}
+use Rattle.std.specs.Prelude.{Ok, Option, Some, None}
 use Rattle.text.specs.Text.{bytes_of}
 use Rattle.lent.specs.Fit32.{Fit32, AllFit32}
 use Rattle.records.specs.declared.record.Rec.{Rec}
@@ -20,8 +20,6 @@ use Rattle.forest.specs.Forest.{Forest, nil, token, node, kids}
 use Rattle.forest.specs.Limits.{Limited, size}
 use Rattle.forest.proofs.Limits.{admitted-limited, inside-size}
 use Rattle.forest.proofs.Sense.{admitted-tidy}
-use Rattle.brackets.specs.declared.bracket_matching.Hint.{Hint}
-use Rattle.brackets.specs.declared.bracket_matching.Hint.TheVariants.{Opener, NoOpener}
 use Rattle.brackets.specs.Brackets.{is_opener, is_closer, fits, closed, stack_step, left, stack_left, index_of, openers_left, opener_row, holding, last_opener, hint_of}
 
 -- each of these records has a number below 4,096
@@ -59,18 +57,18 @@ few-fit [] w = tt
 few-fit (r ∷ rs) w = ((omega (arith, w.0), tt), few-fit rs w.1)
 
 -- the opener that a hint names, if it names one
-unfoldable NamesFew : Hint → Type 0
-NamesFew (Opener i) = i < most_records
-NamesFew NoOpener = Unit
+unfoldable NamesFew : Option ℕ → Type 0
+NamesFew (Some i) = i < most_records
+NamesFew None = Unit
 
-names-chosen : (b : Bool) (x y : Hint) → NamesFew x → NamesFew y → NamesFew (cond b x y)
+names-chosen : (b : Bool) (x y : Option ℕ) → NamesFew x → NamesFew y → NamesFew (cond b x y)
 names-chosen true x y p q = p
 names-chosen false x y p q = q
 
 last-few : (k : ℕ) (stack : List Rec) → Few stack → NamesFew (last_opener k stack)
 unfolding last_opener Few NamesFew
 last-few k [] w = tt
-last-few k (o ∷ stack) w = names-chosen (eqb o.kind k) (Opener o.index) (last_opener k stack) w.0 (last-few k stack w.1)
+last-few k (o ∷ stack) w = names-chosen (eqb o.kind k) (Some o.index) (last_opener k stack) w.0 (last-few k stack w.1)
 
 -- ---- how many
 
@@ -100,7 +98,7 @@ left_below stack (node r below rest) = omega (arith, left_below (left stack belo
 
 -- ---- of an admitted table
 
-module _ (t : List ℕ) (n m : ℕ) (a : Admitted ≡ verdict t n m) where
+module _ (t : List ℕ) (n m : ℕ) (a : Ok tt ≡ verdict t n m) where
   stack-few : Few (stack_left t)
   stack-few = left-few [] (kids (records 0 t)) (unfold Few in tt) (admitted-limited t n m a 0)
 
@@ -112,9 +110,9 @@ module _ (t : List ℕ) (n m : ℕ) (a : Admitted ≡ verdict t n m) where
   hint-few message =
       names-chosen (holding (bytes_of "expected )") message) (last_opener opening_round (stack_left t)) _ (last-few opening_round (stack_left t) stack-few)
       (names-chosen (holding (bytes_of "expected ]") message) (last_opener opening_square (stack_left t)) _ (last-few opening_square (stack_left t) stack-few)
-      (names-chosen (holding (bytes_of "expected }") message) (last_opener opening_curly (stack_left t)) NoOpener (last-few opening_curly (stack_left t) stack-few) (unfold NamesFew in tt)))
+      (names-chosen (holding (bytes_of "expected }") message) (last_opener opening_curly (stack_left t)) None (last-few opening_curly (stack_left t) stack-few) (unfold NamesFew in tt)))
 
-  pub hint-within : (message : List ℕ) {i : ℕ} → hint_of message (stack_left t) ≡ Opener i → i < most_records
+  pub hint-within : (message : List ℕ) {i : ℕ} → hint_of message (stack_left t) ≡ Some i → i < most_records
   unfolding NamesFew
   hint-within message e = rw e at (hint-few message)
 

@@ -7,7 +7,7 @@ use native.Mathlib.Omega.{arith}
 use native.Mathlib.Nat.{zero-add, add-zero}
 use native.Mathlib.Numerals.{add-one}
 use borrow.Author.Tests.{leb-true, lt-leb}
-use Rattle.lent.specs.declared.verdict.Verdict.TheVariants.{Admitted}
+use Rattle.std.specs.Prelude.{Ok}
 use Rattle.records.specs.Kinds.{last_node}
 use Rattle.records.specs.Table.{count, kind_at, record_at, run, from, records, part}
 use Rattle.table.specs.Rules.{verdict}
@@ -16,7 +16,7 @@ use Rattle.forest.specs.Sense.{Tidy, Linked, tree_of, in_order, by_depth}
 use Rattle.forest.proofs.Laws.{count-part, kind-part}
 use Rattle.forest.proofs.Owned.{Own, tree-own}
 use Rattle.forest.proofs.Sense.{admitted-tidy, whole-tree}
-use Rattle.brackets.specs.inner.BracketStack.{stack_of, stepped_by, stepped_over, left_by, Stacks}
+use Rattle.brackets.specs.inner.BracketStack.{stepped_by, stepped_over, left_by, Stacks}
 
 -- a node does nothing to the stack
 passed : (st : List ℕ) (k i : ℕ) → k ≤ last_node → stepped_by st k i ≡ st
@@ -75,10 +75,6 @@ module _ (t : List ℕ) where
 
 -- ---- what the loop over record 0's children does
 
-pub stack-first : (t array : List ℕ) → Stacks t → stack_of array 0 ≡ stepped_over [] t 0 1
-unfolding stack_of
-stack-first t array w = sym w.first
-
 pub stack-child : (t : List ℕ) (i e : ℕ) {s st x : List ℕ} {k : ℕ} → i < e → e ≤ count t → s ≡ part t i e → k ≡ count s
     → x ≡ stepped_over st s i (count s) → st ≡ stepped_over [] t 0 i → x ≡ stepped_over [] t 0 (i + k)
 stack-child t i e a b s k q h =
@@ -88,7 +84,7 @@ pub stack-last : (t : List ℕ) (i : ℕ) {x : List ℕ} → Stacks t → i ≡ 
 stack-last t i w e q = q ∙ rw e (sym w.flat)
 
 -- THE THEOREM
-pub admitted-stacks : (t : List ℕ) (n m : ℕ) → verdict t n m ≡ Admitted → Stacks t
+pub admitted-stacks : (t : List ℕ) (n m : ℕ) → verdict t n m ≡ Ok tt → Stacks t
 admitted-stacks t n m v = record { first = first; flat = flat }
   where
     w : Tidy t n

@@ -1,17 +1,11 @@
 -- Brackets: document 01's section of that name.
 -- Definitions only.
-use Rattle.std.specs.Prelude.{ℕ, Bool, cond, ◌&&◌, ◌||◌, ◌≡◌, List, [], ◌∷◌, ◌++◌, map, reverse, leb, eqb, length, take}
+use Rattle.std.specs.Prelude.{ℕ, Bool, cond, ◌&&◌, ◌||◌, ◌≡◌, List, [], ◌∷◌, ◌++◌, map, reverse, leb, eqb, length, take, Option, Some, None}
 use Rattle.records.specs.declared.record.Rec.{Rec}
 use Rattle.records.specs.Kinds.{opening_round, opening_square, opening_curly, closing_round, closing_square, closing_curly}
 use Rattle.records.specs.Table.{records}
 use Rattle.forest.specs.Forest.{Forest, nil, token, node, kids}
 use Rattle.text.specs.Text.{bytes_of, same}
-use Rattle.lent.specs.declared.verdict.Verdict.{Verdict}
-use Rattle.lent.specs.declared.verdict.Verdict.TheVariants.{Admitted, Refused}
-use Rattle.brackets.specs.declared.bracket_matching.HintReply.{HintReply}
-use Rattle.brackets.specs.declared.bracket_matching.HintReply.TheVariants.{Hinted, Refused as Denied}
-use Rattle.brackets.specs.declared.bracket_matching.Hint.{Hint}
-use Rattle.brackets.specs.declared.bracket_matching.Hint.TheVariants.{Opener, NoOpener}
 
 -- ---- the stack
 
@@ -74,18 +68,13 @@ pub record StandsIn (w m : List ℕ) : Type 0 where
   pub is : m ≡ before ++ w ++ after
 
 -- the last opener of this kind that is left: the nearest to the top
-unfoldable pub last_opener : ℕ → List Rec → Hint
-last_opener k [] = NoOpener
-last_opener k (o ∷ stack) = let on : Hint = last_opener k stack in cond (eqb o.kind k) (Opener o.index) on
+unfoldable pub last_opener : ℕ → List Rec → Option ℕ
+last_opener k [] = None
+last_opener k (o ∷ stack) = let on : (Option ℕ) = last_opener k stack in cond (eqb o.kind k) (Some o.index) on
 
 -- for a message holding `expected )`, else `expected ]`, else `expected }`, the last such opener left, or none
-unfoldable pub hint_of : List ℕ → List Rec → Hint
+unfoldable pub hint_of : List ℕ → List Rec → Option ℕ
 hint_of m stack =
     cond (holding (bytes_of "expected )") m) (last_opener opening_round stack)
     (cond (holding (bytes_of "expected ]") m) (last_opener opening_square stack)
-    (cond (holding (bytes_of "expected }") m) (last_opener opening_curly stack) NoOpener))
-
--- the reply: a refusal, or the hint
-unfoldable pub hinted : Verdict → Hint → HintReply
-hinted Admitted h = Hinted h
-hinted (Refused k d) h = Denied k d
+    (cond (holding (bytes_of "expected }") m) (last_opener opening_curly stack) None))

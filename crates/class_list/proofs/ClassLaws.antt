@@ -2,11 +2,11 @@
 -- Assumes nothing.
 use Prim.Native.Nat.{ℕ, ◌+◌, ◌*◌, ◌≤◌, ◌<◌}
 use mathlib.Core.Path.{◌≡◌, refl, sym, ◌∙◌}
-use mathlib.Core.Option.{Option, none, some}
 use native.Mathlib.Omega.{arith}
 use mathlib.Core.List.{List, [], ◌∷◌, ◌++◌, append-nil}
 use native.Mathlib.Numerals.{add-one}
 use borrow.Author.Tests.{le-leb, lt-leb}
+use Rattle.std.specs.Prelude.{Option, Some, None}
 use Rattle.records.specs.Kinds.{last_node}
 use Rattle.records.specs.Table.{kind_at, start_at, end_at, parent_at}
 use Rattle.lent.specs.Numbers.{number_bytes}
@@ -14,42 +14,20 @@ use Rattle.lent.specs.Lists.{put, Written}
 use Rattle.lent.proofs.Writes.{written_none, written_one, written_then}
 use Rattle.classes.specs.declared.token_class.TokenClass.{TokenClass}
 use Rattle.classes.specs.TokenClass.{class_of, number_of}
-use Rattle.classes.specs.inner.Slots.{slot, slot_of}
-use Rattle.classes.specs.declared.token_class.TokenClass.TheVariants.{Keyword, Function, StringLiteral, Number, Comment, Operator, Variable, TypeName, Parameter, Property, Unclassed}
-use Rattle.class_list.specs.Classes.{entry_with, entry_of, class_row}
+use Rattle.classes.specs.declared.token_class.TokenClass.TheVariants.{Keyword, Function, StringLiteral, Number, Comment, Operator, Variable, TypeName, Parameter, Property}
+use Rattle.class_list.specs.Classes.{entry_of, class_row}
 use Rattle.class_list.specs.inner.Carried.{given_at, given_below}
 
 -- ---- its entry
-none_of : (c : TokenClass) → slot_of c ≡ 10 → number_of c ≡ none
-unfolding slot_of slot number_of
-none_of Keyword e = absurd (omega arith)
-none_of Function e = absurd (omega arith)
-none_of StringLiteral e = absurd (omega arith)
-none_of Number e = absurd (omega arith)
-none_of Comment e = absurd (omega arith)
-none_of Operator e = absurd (omega arith)
-none_of Variable e = absurd (omega arith)
-none_of TypeName e = absurd (omega arith)
-none_of Parameter e = absurd (omega arith)
-none_of Property e = absurd (omega arith)
-none_of Unclassed e = refl
+module _ (a b : ℕ) (out : List ℕ) (at : ℕ) where
+  pub class-none : Written class_row (entry_of None a b) out at out at
+  unfolding entry_of
+  class-none = written_none class_row out at
 
-some_of : (c : TokenClass) → (slot_of c ≡ 10 → ⊥) → number_of c ≡ some (slot_of c)
-unfolding slot_of slot
-some_of c h = go (number_of c) h
-  where
-    go : (n : Option ℕ) → (slot n ≡ 10 → ⊥) → n ≡ some (slot n)
-    go none h = absurd (h refl)
-    go (some n) h = refl
-
-module _ (c : TokenClass) (a b : ℕ) {n : ℕ} (e : n ≡ slot_of c) (out : List ℕ) (at : ℕ) where
-  pub class-none : n ≡ 10 → Written class_row (entry_of c a b) out at out at
-  unfolding entry_of entry_with
-  class-none h = rw (none_of c (sym e ∙ h)) (written_none class_row out at)
-
-  pub class-some : {out' : List ℕ} {at' : ℕ} → (n ≡ 10 → ⊥) → out' ≡ put out at (a ∷ b ∷ n ∷ []) → at' ≡ at + number_bytes * 3 → Written class_row (entry_of c a b) out at out' at'
-  unfolding entry_of entry_with
-  class-some h q r = rw (some_of c (λ z. h (e ∙ z))) (written_one class_row (record { start = a; end = b; class = slot_of c }) out at (rw e at q) r)
+  pub class-some : (c : TokenClass) {out' : List ℕ} {at' : ℕ} → out' ≡ put out at (a ∷ b ∷ number_of c ∷ []) → at' ≡ at + number_bytes * 3
+      → Written class_row (entry_of (Some c) a b) out at out' at'
+  unfolding entry_of
+  class-some c q r = written_one class_row (record { start = a; end = b; class = number_of c }) out at q r
 
 -- ---- what a turn of the walk adds
 pub below_next : (source t : List ℕ) (i : ℕ) → given_below source t (i + 1) ≡ given_below source t i ++ given_at source t i
@@ -74,6 +52,6 @@ module _ (source t out : List ℕ) where
     pub class-over : kind_at t i ≤ last_node → Written class_row (given_below source t (i + 1)) out 0 out' next
     class-over h = rw (below_next source t i, at-node source t i h, append-nil (given_below source t i)) w
 
-    pub class-put : {k a b u p next' : ℕ} {c : TokenClass} {out'' : List ℕ} → c ≡ class_of source p k a b → p ≡ kind_at t u → u ≡ parent_at t i → k ≡ kind_at t i → a ≡ start_at t i → b ≡ end_at t i
+    pub class-put : {k a b u p next' : ℕ} {c : Option TokenClass} {out'' : List ℕ} → c ≡ class_of source p k a b → p ≡ kind_at t u → u ≡ parent_at t i → k ≡ kind_at t i → a ≡ start_at t i → b ≡ end_at t i
         → last_node < k → Written class_row (entry_of c a b) out' next out'' next' → Written class_row (given_below source t (i + 1)) out 0 out'' next'
     class-put c p u k a b h v = rw (below_next source t i, at-token source t i (rw k at h)) (written_then class_row w (rw (c, p, u, k, a, b) at v))

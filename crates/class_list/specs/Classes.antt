@@ -1,7 +1,6 @@
 -- Token classes: the list of document 01's section of that name.
 -- Definitions only.
-use Rattle.std.specs.Prelude.{ℕ, ◌*◌, List, [], ◌∷◌, ◌++◌}
-use Rattle.std.proofs.Math.Option.{Option, none, some}
+use Rattle.std.specs.Prelude.{ℕ, ◌*◌, List, [], ◌∷◌, ◌++◌, Option, Some, None}
 use Rattle.records.specs.Table.{kind_at, records}
 use Rattle.forest.specs.Forest.{Forest, nil, token, node, kids}
 use Rattle.classes.specs.declared.token_class.TokenClass.{TokenClass}
@@ -9,14 +8,10 @@ use Rattle.classes.specs.TokenClass.{class_of, number_of}
 use Rattle.class_list.specs.declared.class_list.ClassedToken.{ClassedToken}
 use Rattle.lent.specs.Numbers.{number_bytes}
 
--- the entry of a token with this number; without one there is none
-unfoldable pub entry_with : Option ℕ → ℕ → ℕ → List ClassedToken
-entry_with none start end = []
-entry_with (some n) start end = record { start = start; end = end; class = n } ∷ []
-
--- the entry of a token of this class, if it has one
-unfoldable pub entry_of : TokenClass → ℕ → ℕ → List ClassedToken
-entry_of c = entry_with (number_of c)
+-- the entry of a token of this class; without one there is none
+unfoldable pub entry_of : Option TokenClass → ℕ → ℕ → List ClassedToken
+entry_of None start end = []
+entry_of (Some c) start end = record { start = start; end = end; class = number_of c } ∷ []
 
 -- the numbers of an entry: start, end, class
 abbrev pub class_row : ClassedToken → List ℕ

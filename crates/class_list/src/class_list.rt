@@ -7,11 +7,11 @@ ghost use Rattle.keywords.specs.inner.KeywordTable.{Lent};
 ghost use Rattle.class_list.specs.Classes.{class_row, entry_bytes, entry_of, classes_of};
 ghost use Rattle.class_list.specs.inner.Carried.{Carries};
 
-use classes::token_class::{TokenClass, UNCLASSED, classify_token, number_of};
+use classes::token_class::{TokenClass, classify_token};
 use keywords::keywords::Starts;
-use lent::list::{Listed, put_entry};
+use lent::list::put_entry;
 use lent::number::NUMBER_BYTES;
-use lent::verdict::NO_ROOM;
+use lent::refusal::{Condition, Refusal, refused};
 use records::kinds::LAST_NODE;
 use records::record::{count_of, end_at, kind_at, parent_at, start_at};
 
@@ -27,15 +27,20 @@ pub struct ClassedToken {
 const ENTRY_BYTES: usize = 3 * NUMBER_BYTES;
 
 // Writes the entry of a token, if it has a class, to byte `at` and returns the byte of the next entry.
-fn put_class(out: &mut [u8], at: usize, c: TokenClass, start: usize, end: usize) -> usize
+fn put_class(
+    out: &mut [u8],
+    at: usize,
+    class: Option<TokenClass>,
+    start: usize,
+    end: usize,
+) -> usize
     requires { at < farthest }
-    ensures { Written class_row (entry_of c start «end») out.old at out.new result × (result ≤ at + entry_bytes) }
+    ensures { Written class_row (entry_of class start «end») out.old at out.new result × (result ≤ at + entry_bytes) }
 {
-    let class = number_of(c);
-    if class == UNCLASSED {
-        return at;
+    match class {
+        None => at,
+        Some(c) => put_entry(out, at, &[start, end, c.number()]),
     }
-    put_entry(out, at, &[start, end, class])
 }
 
 // Writes the classed tokens of a table from out's first byte on, record by record: a token's direct parent is the record whose number it carries. Returns how
@@ -54,6 +59,7 @@ fn collect_tokens(
     let m = count_of(table);
     let mut next = 0;
     let mut i = 0;
+    // While, not for: by `for` the loop over a word's letters below has too few registers, and the class of a token misses its bar.
     while i < m {
         let kind = kind_at(table, i);
         if kind <= LAST_NODE {
@@ -88,7 +94,7 @@ pub fn list_classes(
     table: &[u8],
     source: &[u8],
     out: &mut [u8],
-) -> Listed
+) -> Result<u32, Refusal>
     requires { Lent words.now starts.now × (count table.now ≤ most_records) × Carries table.now }
     ensures { Answers [] class_row
         (classes_of source.now table.now) out.old result out.new }
@@ -97,9 +103,9 @@ pub fn list_classes(
     if room < ENTRY_BYTES * count_of(table) {
         let needed = class_bytes(words, starts, table, source);
         if room < needed {
-            return Listed::Refused(NO_ROOM, (needed / ENTRY_BYTES) as u32);
+            return refused(Condition::NoRoom, (needed / ENTRY_BYTES) as u32);
         }
     }
     let size = collect_tokens(words, starts, table, source, out);
-    Listed::Entries((size / ENTRY_BYTES) as u32)
+    Ok((size / ENTRY_BYTES) as u32)
 }

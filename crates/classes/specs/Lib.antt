@@ -1,2 +1,1 @@
 pub mod TokenClass
-pub mod inner

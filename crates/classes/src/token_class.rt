@@ -1,8 +1,7 @@
 // The class of a token: what colour it has, by its kind, its direct parent's kind and, for a bareword, the keywords.
 ghost use Rattle.std.specs.Prelude.{◌≡◌, false};
-ghost use Rattle.classes.specs.inner.Slots.{slot_of};
 ghost use Rattle.keywords.specs.inner.KeywordTable.{Lent};
-ghost use Rattle.classes.specs.TokenClass.{by_parent, judged, bareword, class_of};
+ghost use Rattle.classes.specs.TokenClass.{by_parent, judged, bareword, class_of, number_of};
 
 use keywords::keywords::{Starts, keyword_in};
 use records::kinds::{
@@ -10,41 +9,27 @@ use records::kinds::{
 };
 use text::text::text_of;
 
-// The classes by document 01's numbers, 0 to 9, and none.
-#[derive(Clone, Copy)]
+// The classes, with document 01's numbers.
+#[derive(Clone, Copy, PartialEq, Eq)]
 pub enum TokenClass {
-    Keyword,
-    Function,
-    StringLiteral,
-    Number,
-    Comment,
-    Operator,
-    Variable,
-    TypeName,
-    Parameter,
-    Property,
-    Unclassed,
+    Keyword = 0,
+    Function = 1,
+    StringLiteral = 2,
+    Number = 3,
+    Comment = 4,
+    Operator = 5,
+    Variable = 6,
+    TypeName = 7,
+    Parameter = 8,
+    Property = 9,
 }
 
-// What a token without a class has in place of a number.
-pub const UNCLASSED: usize = 10;
-
-// The number of a class, if it has one.
-pub fn number_of(c: TokenClass) -> usize
-    ensures { result ≡ slot_of c }
-{
-    match c {
-        TokenClass::Keyword => 0,
-        TokenClass::Function => 1,
-        TokenClass::StringLiteral => 2,
-        TokenClass::Number => 3,
-        TokenClass::Comment => 4,
-        TokenClass::Operator => 5,
-        TokenClass::Variable => 6,
-        TokenClass::TypeName => 7,
-        TokenClass::Parameter => 8,
-        TokenClass::Property => 9,
-        TokenClass::Unclassed => UNCLASSED,
+impl TokenClass {
+    // Its number.
+    pub fn number(self) -> usize
+        ensures { result ≡ number_of self }
+    {
+        self as usize
     }
 }
 
@@ -62,33 +47,38 @@ fn classify_identifier_by_parent(parent: usize) -> TokenClass
 }
 
 // The class of a bareword that is no keyword: its parent's kind alone decides.
-fn classify_plain_word(parent: usize) -> TokenClass
+fn classify_plain_word(parent: usize) -> Option<TokenClass>
     ensures { result ≡ judged false parent }
 {
     match parent {
-        40..=42 => TokenClass::TypeName,
-        43..=45 => TokenClass::Function,
-        33..=35 => TokenClass::Property,
-        50..=54 => TokenClass::Property,
-        49 => TokenClass::Parameter,
-        46..=48 => TokenClass::Variable,
-        36 => TokenClass::Variable,
-        55 => TokenClass::Variable,
-        _ => TokenClass::Unclassed,
+        40..=42 => Some(TokenClass::TypeName),
+        43..=45 => Some(TokenClass::Function),
+        33..=35 => Some(TokenClass::Property),
+        50..=54 => Some(TokenClass::Property),
+        49 => Some(TokenClass::Parameter),
+        46..=48 => Some(TokenClass::Variable),
+        36 => Some(TokenClass::Variable),
+        55 => Some(TokenClass::Variable),
+        _ => None,
     }
 }
 
 // The keyword table is lent: naming it here would copy it for each word.
-fn classify_bareword(words: &[u8], starts: &Starts, text: &[u8], parent: usize) -> TokenClass
+fn classify_bareword(
+    words: &[u8],
+    starts: &Starts,
+    text: &[u8],
+    parent: usize,
+) -> Option<TokenClass>
     requires { Lent words.now starts.now }
     ensures { result ≡ bareword text.now parent }
 {
     match parent {
-        40..=42 => TokenClass::TypeName,
-        49 => TokenClass::Parameter,
+        40..=42 => Some(TokenClass::TypeName),
+        49 => Some(TokenClass::Parameter),
         _ => {
             if keyword_in(words, starts, text) {
-                TokenClass::Keyword
+                Some(TokenClass::Keyword)
             } else {
                 classify_plain_word(parent)
             }
@@ -105,17 +95,17 @@ pub fn classify_token(
     end: usize,
     source: &[u8],
     parent: usize,
-) -> TokenClass
+) -> Option<TokenClass>
     requires { Lent words.now starts.now }
     ensures { result ≡ class_of source.now parent kind start «end» }
 {
     match kind {
-        COMMENT => TokenClass::Comment,
-        NUMBER => TokenClass::Number,
-        STRING_TOKEN..=HERE_DOC => TokenClass::StringLiteral,
-        PLUS..=LAST_TOKEN => TokenClass::Operator,
-        QUOTED_IDENTIFIER => classify_identifier_by_parent(parent),
+        COMMENT => Some(TokenClass::Comment),
+        NUMBER => Some(TokenClass::Number),
+        STRING_TOKEN..=HERE_DOC => Some(TokenClass::StringLiteral),
+        PLUS..=LAST_TOKEN => Some(TokenClass::Operator),
+        QUOTED_IDENTIFIER => Some(classify_identifier_by_parent(parent)),
         BARE_WORD => classify_bareword(words, starts, text_of(source, start, end), parent),
-        _ => TokenClass::Unclassed,
+        _ => None,
     }
 }

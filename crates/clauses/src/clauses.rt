@@ -29,12 +29,10 @@ fn has_kind_from(s: &[u8], first: usize, last: usize, j: usize) -> bool
     ensures { result ≡ some_kind first last (from s.now 0 j) }
 {
     let m = count_of(s);
-    let mut i = j;
-    while i < m {
+    for i in j..m {
         if is_within(kind_at(s, i), first, last) {
             return true;
         }
-        i += 1;
     }
     false
 }
@@ -45,6 +43,7 @@ fn has_kind(s: &[u8], first: usize, last: usize) -> bool
 {
     let m = count_of(s);
     let mut i = 0;
+    // While, not for: one record at a turn reads a list of four in more instructions than its bar.
     while i + 4 <= m {
         if is_within(kind_at(s, i), first, last) {
             return true;

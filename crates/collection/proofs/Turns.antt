@@ -6,11 +6,11 @@ use mathlib.Core.Bool.{true, false, ◌||◌}
 use mathlib.Core.List.{List, [], ◌++◌, map, append-nil}
 use borrow.Author.Tests.{eq-eqb, ne_eqb}
 use lib.Dec.{eqb}
+use Rattle.std.specs.Prelude.{None}
 use Rattle.records.specs.Kinds.{with_clause, select_clause, from_clause, join_clause, subquery_expression}
 use Rattle.records.specs.Table.{count, kind_at, record_at, records, part}
 use Rattle.forest.specs.Forest.{Forest, nil, node, kids, stretch_end}
 use Rattle.forest.proofs.Laws.{head-part}
-use Rattle.references.specs.declared.pending.Pending.TheVariants.{Nothing}
 use Rattle.tables.specs.declared.tables.Reads.TheVariants.{Aliases, References}
 use Rattle.clauses.specs.declared.clauses.ScopeList.TheVariants.{WithNames, TableAliases, ColumnAliases, TableRefs}
 use Rattle.names.specs.Bindings.{with_items, select_aliases, binding_row}
@@ -75,7 +75,7 @@ module _ (src : List ℕ) (k : ℕ) (f : Forest) where
   unfolding own_rows
   references-are = refl
 
-  pub tables-yes : {E : Type 0} (L : Listing E) → (eqb k from_clause || eqb k join_clause) ≡ true → own_tables L src k f ≡ table_reading L src Nothing f
+  pub tables-yes : {E : Type 0} (L : Listing E) → (eqb k from_clause || eqb k join_clause) ≡ true → own_tables L src k f ≡ table_reading L src None f
   unfolding own_tables
   tables-yes L e = rw e
 

@@ -1,12 +1,11 @@
 -- Collection: a node's own part of each list, and then each child's.
 -- src is the source's bytes.
 -- Definitions only.
-use Rattle.std.specs.Prelude.{ℕ, cond, ◌||◌, List, [], ◌++◌, eqb}
+use Rattle.std.specs.Prelude.{ℕ, cond, ◌||◌, List, [], ◌++◌, eqb, None}
 use Rattle.records.specs.declared.record.Rec.{Rec}
 use Rattle.records.specs.Kinds.{with_clause, select_clause, from_clause, join_clause, subquery_expression}
 use Rattle.forest.specs.Forest.{Forest, nil, token, node, kids, stretch_end}
 use Rattle.names.specs.declared.names.NameBinding.{NameBinding}
-use Rattle.references.specs.declared.pending.Pending.TheVariants.{Nothing}
 use Rattle.names.specs.Bindings.{with_items, select_aliases}
 use Rattle.tables.specs.Tables.{Listing, table_reading}
 use Rattle.records.specs.Table.{record_at, records, part}
@@ -41,7 +40,7 @@ own_columns src k below = cond (eqb k select_clause) (select_aliases src below) 
 
 -- From and Join run the table reading
 unfoldable pub own_tables : {E : Type 0} → Listing E → List ℕ → ℕ → Forest → List E
-own_tables L src k below = cond (eqb k from_clause || eqb k join_clause) (table_reading L src Nothing below) []
+own_tables L src k below = cond (eqb k from_clause || eqb k join_clause) (table_reading L src None below) []
 
 -- the collection of the first record of the stretch s, whose number is base
 abbrev pub collection_of : {E : Type 0} → (ℕ → Forest → List E) → ℕ → List ℕ → List E

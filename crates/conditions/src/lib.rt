@@ -1,5 +1,4 @@
 // The conditions of the refusals; those of the table and the lengths as a whole as tests.
 #![tactic(auto)]
 
-pub mod refusal;
 pub mod whole;

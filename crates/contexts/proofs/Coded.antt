@@ -5,7 +5,7 @@ use mathlib.Core.Bool.{cond}
 use native.Mathlib.Omega.{arith}
 use borrow.Author.Tests.{ne_eqb}
 use lib.Dec.{eqb}
-use Rattle.tokens.specs.declared.last_token.Name.TheVariants.{Nameless, Named}
+use Rattle.std.specs.Prelude.{None, Some}
 use Rattle.contexts.specs.declared.context.CursorContext.{CursorContext}
 use Rattle.contexts.specs.declared.context.CursorContext.TheVariants.{SelectExpression, TableReference, ColumnOfTable, Expression, SettingName, EngineName, FormatName, DataType, CodecName, FunctionArgument, StatementStart, Unknown}
 use Rattle.contexts.specs.declared.context.Coded.{Coded}
@@ -15,8 +15,8 @@ use Rattle.contexts.specs.Context.{range_of, reference_number, coded, Starts, Ra
 decoded : Coded → CursorContext
 decoded c =
     cond (eqb c.number 0) SelectExpression
-    (cond (eqb c.number 1) (TableReference Nameless)
-    (cond (eqb c.number 2) (TableReference (Named c.name))
+    (cond (eqb c.number 1) (TableReference None)
+    (cond (eqb c.number 2) (TableReference (Some c.name))
     (cond (eqb c.number 3) (ColumnOfTable c.name)
     (cond (eqb c.number 4) Expression
     (cond (eqb c.number 5) SettingName
@@ -24,15 +24,15 @@ decoded c =
     (cond (eqb c.number 7) FormatName
     (cond (eqb c.number 8) DataType
     (cond (eqb c.number 9) CodecName
-    (cond (eqb c.number 10) (FunctionArgument (cond (eqb c.name.start 4294967295) Nameless (Named c.name)) c.index)
+    (cond (eqb c.number 10) (FunctionArgument (cond (eqb c.name.start 4294967295) None (Some c.name)) c.index)
     (cond (eqb c.number 11) StatementStart
     Unknown)))))))))))
 
 told : (c : CursorContext) → Ranged c → decoded (coded c) ≡ c
 unfolding decoded coded range_of reference_number Ranged Starts
 told SelectExpression h = refl
-told (TableReference Nameless) h = refl
-told (TableReference (Named r)) h = refl
+told (TableReference None) h = refl
+told (TableReference (Some r)) h = refl
 told (ColumnOfTable r) h = refl
 told Expression h = refl
 told SettingName h = refl
@@ -40,8 +40,8 @@ told EngineName h = refl
 told FormatName h = refl
 told DataType h = refl
 told CodecName h = refl
-told (FunctionArgument Nameless i) h = refl
-told (FunctionArgument (Named r) i) h = rw (ne_eqb r.start 4294967295 (λ e. omega arith))
+told (FunctionArgument None i) h = refl
+told (FunctionArgument (Some r) i) h = rw (ne_eqb r.start 4294967295 (λ e. omega arith))
 told StatementStart h = refl
 told Unknown h = refl
 

@@ -1,19 +1,16 @@
 -- Document 01, Cursor, "Then path nodes, deepest first": one rule for each of its lines, in its order.
 -- Definitions only.
-use Rattle.std.specs.Prelude.{ℕ, Bool, true, cond, ◌||◌, List, [], ◌∷◌, eqb}
+use Rattle.std.specs.Prelude.{ℕ, Bool, true, cond, ◌||◌, List, [], ◌∷◌, eqb, Option, None, Some}
+use Rattle.records.specs.declared.range.Range.{Range}
 use Rattle.records.specs.declared.record.Rec.{Rec}
 use Rattle.records.specs.Kinds.{file, query_list, error, insert_statement, select_clause, from_clause, join_clause, prewhere_clause, where_clause, group_by_clause, having_clause, order_by_clause, settings_clause, setting_list, engine_clause, format_clause, insert_format_clause, join_constraint, table_identifier, column_definition, column_type_definition, column_codec, data_type, data_type_parameters, function_call, aggregate_function}
 use Rattle.forest.specs.Forest.{Forest, inside}
-use Rattle.tokens.specs.declared.last_token.Name.{Name}
-use Rattle.tokens.specs.declared.last_token.Name.TheVariants.{Nameless, Named}
 use Rattle.contexts.specs.declared.context.CursorContext.{CursorContext}
 use Rattle.contexts.specs.declared.context.CursorContext.TheVariants.{SelectExpression, TableReference, ColumnOfTable, Expression, SettingName, EngineName, FormatName, DataType, CodecName, FunctionArgument, StatementStart}
-use Rattle.contexts.specs.declared.context.Answer.{Answer}
-use Rattle.contexts.specs.declared.context.Answer.TheVariants.{GoOn, Given}
 use Rattle.path.specs.Path.{Next}
 use Rattle.path.specs.Path.{one_of, on_path, next_of, is_deepest, deepest_over}
 use Rattle.tokens.specs.LastToken.{last_two, dotted, is_join_word}
-use Rattle.tokens.specs.Function.{function_name, arguments}
+use Rattle.tokens.specs.Function.{function_name, argument_index}
 
 -- ---- what a rule looks at
 
@@ -38,12 +35,12 @@ joined src o constrained f =
 
 -- FunctionArgument
 unfoldable pub function_argument : ℕ → Forest → CursorContext
-function_argument o f = FunctionArgument (function_name f) (arguments o f).index
+function_argument o f = FunctionArgument (function_name f) (argument_index o f)
 
 -- ColumnOfTable if dotted, else the other
-unfoldable pub column_or : CursorContext → Name → CursorContext
-column_or other Nameless = other
-column_or other (Named r) = ColumnOfTable r
+unfoldable pub column_or : CursorContext → Option Range → CursorContext
+column_or other None = other
+column_or other (Some r) = ColumnOfTable r
 
 -- ColumnOfTable if dotted, else SelectExpression for 15 and Expression for the rest
 unfoldable pub column : List ℕ → ℕ → ℕ → Forest → CursorContext
@@ -116,19 +113,19 @@ path_rules src o n =
     ∷ []
 
 -- what the rule that speaks of kind k gives, if it applies; all others go on
-unfoldable pub ruled : ℕ → List NodeRule → Answer
-ruled k [] = GoOn
+unfoldable pub ruled : ℕ → List NodeRule → Option CursorContext
+ruled k [] = None
 ruled k (r ∷ rs) =
-    let given : Answer = cond r.applies (Given r.gives) GoOn in
-    let on : Answer = ruled k rs in
+    let given : Option CursorContext = cond r.applies (Some r.gives) None in
+    let on : Option CursorContext = ruled k rs in
     cond (one_of r.kinds k) given on
 
 -- ---- deepest first
 
 -- this answer, or where it goes on the other
-unfoldable pub else_ask : Answer → Answer → Answer
-else_ask GoOn other = other
-else_ask (Given c) other = Given c
+unfoldable pub else_ask : Option CursorContext → Option CursorContext → Option CursorContext
+else_ask None other = other
+else_ask (Some c) other = Some c
 
 -- a node as the rules see it, where `deeper` is what the path has below it
 abbrev pub seen : List ℕ → Bool → Rec → List Rec → Seen
@@ -136,11 +133,11 @@ seen t constrained r deeper =
     record { kind = r.kind; next = next_of deeper; children = inside t r.index; constrained = constrained }
 
 -- what the nodes of a part of the path give, the deepest first
-unfoldable pub by_path : List ℕ → List ℕ → ℕ → Bool → List Rec → Answer
-by_path src t o constrained [] = GoOn
+unfoldable pub by_path : List ℕ → List ℕ → ℕ → Bool → List Rec → Option CursorContext
+by_path src t o constrained [] = None
 by_path src t o constrained (r ∷ deeper) =
     else_ask (by_path src t o constrained deeper) (ruled r.kind (path_rules src o (seen t constrained r deeper)))
 
 -- rules 2 to 13
-abbrev pub path_rule : List ℕ → List ℕ → ℕ → List Rec → Answer
+abbrev pub path_rule : List ℕ → List ℕ → ℕ → List Rec → Option CursorContext
 path_rule src t o p = by_path src t o (on_path join_constraint p) p

@@ -7,7 +7,7 @@ use mathlib.Core.Bool.{Bool, true, false, cond, ◌&&◌}
 use mathlib.Core.List.{List}
 use native.Mathlib.Omega.{arith}
 use lib.Dec.{eqb}
-use Rattle.lent.specs.declared.verdict.Verdict.TheVariants.{Admitted}
+use Rattle.std.specs.Prelude.{Option, None, Some, Ok}
 use Rattle.lent.specs.Fit32.{Fit32}
 use Rattle.records.specs.Kinds.{file, join_constraint}
 use Rattle.records.specs.Table.{kind_at}
@@ -19,17 +19,15 @@ use Rattle.tokens.specs.LastToken.{last_two}
 use Rattle.path.specs.Path.{path_at, on_path, deepest, trails}
 use Rattle.contexts.specs.declared.context.CursorContext.{CursorContext}
 use Rattle.contexts.specs.declared.context.CursorContext.TheVariants.{StatementStart, Unknown}
-use Rattle.contexts.specs.declared.context.Answer.{Answer}
-use Rattle.contexts.specs.declared.context.Answer.TheVariants.{GoOn, Given}
 use Rattle.contexts.specs.Context.{range_of, coded, context_row}
 use Rattle.contexts.proofs.Given.{OnlyGives, path-gives, trailing-gives}
 use Rattle.contexts.proofs.Fitting.{ContextFits, plain_fits, reference-fits, qualified-fits, function-fits}
 use Rattle.cursor.specs.CursorContext.{starts_after, last_rule, given_or, context_at}
 
-given-fits : (other : CursorContext) (a : Answer) → ContextFits other → OnlyGives ContextFits a → ContextFits (given_or other a)
+given-fits : (other : CursorContext) (a : Option CursorContext) → ContextFits other → OnlyGives ContextFits a → ContextFits (given_or other a)
 unfolding given_or OnlyGives
-given-fits other GoOn p q = p
-given-fits other (Given c) p q = q
+given-fits other None p q = p
+given-fits other (Some c) p q = q
 
 unknown-fits : ContextFits Unknown
 unfolding context_row coded range_of Fit32
@@ -43,7 +41,7 @@ last_fits src t o = go (eqb (kind_at t 0) file && starts_after src (last_two o (
     go true = plain_fits.statement
     go false = unknown-fits
 
-pub context-fits : (src t : List ℕ) (n m o : ℕ) → Admitted ≡ verdict t n m → ContextFits (context_at src t o)
+pub context-fits : (src t : List ℕ) (n m o : ℕ) → Ok tt ≡ verdict t n m → ContextFits (context_at src t o)
 unfolding context_at
 context-fits src t n m o a =
     let l = admitted-limited t n m a in

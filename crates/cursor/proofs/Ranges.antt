@@ -7,12 +7,12 @@ use Prim.Native.Nat.{ℕ, zero, suc, ◌+◌, ◌-◌, ◌≤◌, ◌<◌}
 use mathlib.Core.Path.{◌≡◌}
 use mathlib.Core.Bool.{Bool, true, false, cond, ◌&&◌, ◌||◌}
 use mathlib.Core.List.{List, [], ◌∷◌}
-use mathlib.Core.Option.{Option, none, some}
 use mathlib.Core.Logic.{⊎_elim}
 use native.Mathlib.Omega.{arith}
 use lib.Dec.{ltb, eqb}
+use Rattle.std.specs.Prelude.{Option, None, Some, Ok}
+use Rattle.records.specs.declared.range.Range.{Range}
 use Rattle.records.specs.declared.record.Rec.{Rec}
-use Rattle.lent.specs.declared.verdict.Verdict.TheVariants.{Admitted}
 use Rattle.records.specs.Kinds.{last_node, file, bare_word, opening_round, identifier, select_clause, from_clause, prewhere_clause, where_clause, group_by_clause, having_clause, order_by_clause, settings_clause, format_clause, join_constraint}
 use Rattle.records.specs.Table.{count, kind_at, start_at, record_at, run, from}
 use Rattle.forest.specs.Forest.{Forest, nil, token, node, level, kids, inside}
@@ -21,14 +21,9 @@ use Rattle.forest.specs.Sense.{Tidy}
 use Rattle.lent.proofs.Cases.{lt-or-le}
 use Rattle.forest.proofs.Laws.{node-or-token, level-shallow, level-deep, level-token, level-node, from_end}
 use Rattle.forest.proofs.Sense.{admitted-tidy}
-use Rattle.tokens.specs.declared.last_token.Name.{Name}
-use Rattle.tokens.specs.declared.last_token.Name.TheVariants.{Nameless, Named}
 use Rattle.contexts.specs.declared.context.CursorContext.{CursorContext}
 use Rattle.contexts.specs.declared.context.CursorContext.TheVariants.{Expression, SelectExpression, StatementStart, Unknown}
-use Rattle.contexts.specs.declared.context.Answer.{Answer}
-use Rattle.contexts.specs.declared.context.Answer.TheVariants.{GoOn, Given}
 use Rattle.contexts.specs.declared.trailing.Clause.{Clause}
-use Rattle.contexts.specs.declared.trailing.Clause.TheVariants.{NoClause, Ends}
 use Rattle.path.specs.Path.{path_at, one_of, deepest, on_path, trails}
 use Rattle.tokens.specs.LastToken.{named, last_two, is_join_word}
 use Rattle.tokens.specs.Function.{bare_word_in, or_name, function_name}
@@ -92,14 +87,14 @@ module _ (P : Rec → Type 0) where
 abbrev Near : Rec → Type 0
 Near r = r.start < 4294967295
 
-starts-cond : (b : Bool) (x y : Name) → Starts x → Starts y → Starts (cond b x y)
+starts-cond : (b : Bool) (x y : Option Range) → Starts x → Starts y → Starts (cond b x y)
 starts-cond true x y p q = p
 starts-cond false x y p q = q
 
-starts-or : (x y : Name) → Starts x → Starts y → Starts (or_name x y)
+starts-or : (x y : Option Range) → Starts x → Starts y → Starts (or_name x y)
 unfolding or_name
-starts-or Nameless y p q = q
-starts-or (Named r) y p q = p
+starts-or None y p q = q
+starts-or (Some r) y p q = p
 
 starts-bare : (f : Forest) → Every Near f → Starts (bare_word_in f)
 unfolding Every bare_word_in Starts
@@ -112,7 +107,7 @@ unfolding Every function_name Starts
 starts-name nil e = tt
 starts-name (token r rest) e =
     starts-cond (eqb r.kind bare_word) (named r) _ e.0
-    (starts-cond (eqb r.kind opening_round) Nameless (function_name rest) tt (starts-name rest e.1))
+    (starts-cond (eqb r.kind opening_round) None (function_name rest) tt (starts-name rest e.1))
 starts-name (node r below rest) e =
     starts-cond (eqb r.kind identifier) _ (function_name rest) (starts-or (bare_word_in below) (function_name rest) (starts-bare below e.0) (starts-name rest e.1)) (starts-name rest e.1)
 
@@ -122,23 +117,23 @@ ranged-cond : (b : Bool) (x y : CursorContext) → Ranged x → Ranged y → Ran
 ranged-cond true x y p q = p
 ranged-cond false x y p q = q
 
-unfoldable Fine : Answer → Type 0
-Fine GoOn = Unit
-Fine (Given c) = Ranged c
+unfoldable Fine : Option CursorContext → Type 0
+Fine None = Unit
+Fine (Some c) = Ranged c
 
-fine-cond : (b : Bool) (x y : Answer) → Fine x → Fine y → Fine (cond b x y)
+fine-cond : (b : Bool) (x y : Option CursorContext) → Fine x → Fine y → Fine (cond b x y)
 fine-cond true x y p q = p
 fine-cond false x y p q = q
 
-fine-else : (x y : Answer) → Fine x → Fine y → Fine (else_ask x y)
+fine-else : (x y : Option CursorContext) → Fine x → Fine y → Fine (else_ask x y)
 unfolding else_ask
-fine-else GoOn y p q = q
-fine-else (Given c) y p q = p
+fine-else None y p q = q
+fine-else (Some c) y p q = p
 
-ranged-given : (other : CursorContext) (a : Answer) → Ranged other → Fine a → Ranged (given_or other a)
+ranged-given : (other : CursorContext) (a : Option CursorContext) → Ranged other → Fine a → Ranged (given_or other a)
 unfolding given_or Fine
-ranged-given other GoOn p q = p
-ranged-given other (Given c) p q = q
+ranged-given other None p q = p
+ranged-given other (Some c) p q = q
 
 unfoldable Gives : List NodeRule → Type 0
 Gives [] = Unit
@@ -147,12 +142,12 @@ Gives (r ∷ rs) = Ranged r.gives × Gives rs
 fine-ruled : (k : ℕ) (rs : List NodeRule) → Gives rs → Fine (ruled k rs)
 unfolding ruled Gives Fine
 fine-ruled k [] g = tt
-fine-ruled k (r ∷ rs) g = fine-cond (one_of r.kinds k) _ (ruled k rs) (fine-cond r.applies (Given r.gives) GoOn g.0 tt) (fine-ruled k rs g.1)
+fine-ruled k (r ∷ rs) g = fine-cond (one_of r.kinds k) _ (ruled k rs) (fine-cond r.applies (Some r.gives) None g.0 tt) (fine-ruled k rs g.1)
 
-ranged-column : (x : CursorContext) (n : Name) → Ranged x → Ranged (column_or x n)
+ranged-column : (x : CursorContext) (n : Option Range) → Ranged x → Ranged (column_or x n)
 unfolding column_or Ranged
-ranged-column x Nameless p = p
-ranged-column x (Named r) p = tt
+ranged-column x None p = p
+ranged-column x (Some r) p = tt
 
 ranged-joined : (src : List ℕ) (o : ℕ) (c : Bool) (f : Forest) → Ranged (joined src o c f)
 unfolding joined Ranged table_reference
@@ -170,17 +165,17 @@ fine-clause k =
     (fine-cond (eqb k from_clause) _ _ tt
     (fine-cond (eqb k select_clause) _ _ tt
     (fine-cond (eqb k settings_clause) _ _ tt
-    (fine-cond (eqb k format_clause) _ GoOn tt tt))))
+    (fine-cond (eqb k format_clause) _ None tt tt))))
 
-fine-past : (o : ℕ) (c : Clause) → Fine (past_end o c)
+fine-past : (o : ℕ) (c : Option Clause) → Fine (past_end o c)
 unfolding past_end Fine
-fine-past o NoClause = tt
-fine-past o (Ends k e) = fine-cond (ltb e o) (past_clause k) GoOn (fine-clause k) tt
+fine-past o None = tt
+fine-past o (Some c) = fine-cond (ltb c.end o) (past_clause c.kind) None (fine-clause c.kind) tt
 
 fine-trailing : (t : List ℕ) (o : ℕ) (b : Option Rec) → Fine (trailing_in t o b)
 unfolding trailing_in Fine
-fine-trailing t o none = tt
-fine-trailing t o (some r) = fine-past o _
+fine-trailing t o None = tt
+fine-trailing t o (Some r) = fine-past o _
 
 -- ---- the context
 
@@ -199,7 +194,7 @@ module _ (src t : List ℕ) (o : ℕ) (near : (i : ℕ) → Every Near (inside t
   ranged-context =
       search (ranged-given, ranged-last, fine-path (on_path join_constraint (path_at t o)) (path_at t o), fine-trailing t o (deepest trails (path_at t o)))
 
-pub given-ranged : (src t : List ℕ) (n o : ℕ) → verdict t n 0 ≡ Admitted → Ranged (context_at src t o)
+pub given-ranged : (src t : List ℕ) (n o : ℕ) → verdict t n 0 ≡ Ok tt → Ranged (context_at src t o)
 unfolding record_at
 given-ranged src t n o v = ranged-context src t o (every-inside Near t 0 near)
   where
@@ -209,6 +204,6 @@ given-ranged src t n o v = ranged-context src t o (every-inside Near t 0 near)
     near : (j : ℕ) → j < count t → last_node < kind_at t j → start_at t j < 4294967295
     near j h k = ⊎_elim (λ a. absurd (omega arith)) (λ a. let s = y.spans j h a in omega (arith, y.short)) (y.kinds j h)
 
-pub given-apart : (src src' t t' : List ℕ) (n n' o o' : ℕ) → verdict t n 0 ≡ Admitted → verdict t' n' 0 ≡ Admitted
+pub given-apart : (src src' t t' : List ℕ) (n n' o o' : ℕ) → verdict t n 0 ≡ Ok tt → verdict t' n' 0 ≡ Ok tt
     → coded (context_at src t o) ≡ coded (context_at src' t' o') → context_at src t o ≡ context_at src' t' o'
 given-apart src src' t t' n n' o o' v v' e = tells-apart _ _ (given-ranged src t n o v) (given-ranged src' t' n' o' v') e

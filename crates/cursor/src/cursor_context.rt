@@ -1,5 +1,6 @@
 // The context at the cursor: the rules in their order.
 ghost use Rattle.std.specs.Prelude.{◌≡◌, ◌<◌, length};
+ghost use Rattle.lent.specs.Lists.{reply};
 ghost use Rattle.records.specs.Table.{count};
 ghost use Rattle.lent.specs.Numbers.{word_limit};
 ghost use Rattle.table.specs.Rules.{verdict};
@@ -7,22 +8,22 @@ ghost use Rattle.forest.specs.inner.Ordered.{Ordered};
 ghost use Rattle.path.specs.inner.Gathered.{Within};
 ghost use Rattle.path.specs.inner.Starts.{Starts};
 ghost use Rattle.cursor.specs.inner.Steps.{analyzed};
-ghost use Rattle.cursor.specs.CursorContext.{starts_after, last_rule, context_at, context_reply};
+ghost use Rattle.cursor.specs.CursorContext.{starts_after, last_rule, context_at};
 
-use contexts::context::{Answer, ContextReply, CursorContext};
+use contexts::context::CursorContext;
 use contexts::trailing::check_trailing_clause;
 use descent::descent::{find_node_path, path_from};
 use forest::stretch::rest_from;
-use lent::verdict::Verdict;
+use lent::refusal::Refusal;
 use path::gathered::Gathered;
-use path::rules::NO_RULE;
 use path_rules::rules::rule_context;
 use readings::last_token::token_before_offset;
 use records::kinds::FILE;
+use records::range::Range;
 use records::record::kind_at;
 use table::check::check;
 use text::text::text_of;
-use tokens::last_token::{Name, is_byte};
+use tokens::last_token::is_byte;
 
 // The last rule: at the start of a file or after a semicolon a statement starts.
 fn at_statement_start(table: &[u8], source: &[u8], offset: usize) -> CursorContext
@@ -41,12 +42,12 @@ fn at_statement_start(table: &[u8], source: &[u8], offset: usize) -> CursorConte
 }
 
 // There is no last token, or it is `;`.
-fn starts_after(source: &[u8], last: Name) -> bool
+fn starts_after(source: &[u8], last: Option<Range>) -> bool
     ensures { result ≡ starts_after source.now last }
 {
     match last {
-        Name::Nameless => true,
-        Name::Named(range) => is_byte(text_of(source, range.start, range.end), b';'),
+        None => true,
+        Some(range) => is_byte(text_of(source, range.start, range.end), b';'),
     }
 }
 
@@ -55,13 +56,12 @@ fn analyze_path(table: &[u8], source: &[u8], offset: usize, path: Gathered) -> C
     requires { (0 < count table.now) × Within (count table.now) path × Ordered table.now }
     ensures { result ≡ analyzed source.now table.now offset path }
 {
-    match check_trailing_clause(table, path.statement, offset) {
-        Answer::Given(context) => return context,
-        Answer::GoOn => {}
+    if let Some(context) = check_trailing_clause(table, path.statement, offset) {
+        return context;
     }
-    if path.ruling != NO_RULE {
-        let s = rest_from(table, path.ruled);
-        return rule_context(s, source, offset, path.ruling, path.constrained);
+    if let Some(ruling) = path.ruling {
+        let s = rest_from(table, ruling.node);
+        return rule_context(s, source, offset, ruling.rule, path.constrained);
     }
     at_statement_start(table, source, offset)
 }
@@ -85,12 +85,10 @@ pub fn context_from(table: &[u8], source: &[u8], offset: usize, first: usize) ->
 }
 
 // What is being typed at the offset.
-pub fn cursor_context(table: &[u8], source: &[u8], offset: usize) -> ContextReply
-    ensures { result ≡ context_reply (verdict table.now (length source.now) 0)
+pub fn cursor_context(table: &[u8], source: &[u8], offset: usize) -> Result<CursorContext, Refusal>
+    ensures { result ≡ reply (verdict table.now (length source.now) 0)
         (context_at source.now table.now offset) }
 {
-    match check(table, source) {
-        Verdict::Refused(k, d) => ContextReply::Refused(k, d),
-        Verdict::Admitted => ContextReply::Context(context_at(table, source, offset)),
-    }
+    check(table, source)?;
+    Ok(context_at(table, source, offset))
 }

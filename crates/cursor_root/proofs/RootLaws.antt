@@ -7,13 +7,12 @@ use mathlib.Core.Path.{◌≡◌, refl, sym, ◌∙◌}
 use mathlib.Core.Bool.{Bool, true, false, cond}
 use mathlib.Core.List.{List, [], ◌∷◌}
 use mathlib.Core.Logic.{⊎_elim}
-use mathlib.Core.Option.{Option, none, some}
 use native.Mathlib.Omega.{arith}
 use native.Mathlib.Nat.{zero-add}
 use borrow.Author.Tests.{lt-ltb, le-leb}
+use Rattle.lent.specs.Verdicts.{Verdict}
+use Rattle.std.specs.Prelude.{Option, None, Some, Ok}
 use Rattle.records.specs.declared.record.Rec.{Rec}
-use Rattle.lent.specs.declared.verdict.Verdict.{Verdict}
-use Rattle.lent.specs.declared.verdict.Verdict.TheVariants.{Admitted}
 use Rattle.records.specs.Kinds.{last_node}
 use Rattle.records.specs.Table.{count, kind_at, depth_at, record_at, run, from, records}
 use Rattle.forest.specs.Forest.{Forest, nil, token, node, level, kids}
@@ -25,12 +24,10 @@ use Rattle.lent.proofs.Cases.{lt-or-le}
 use Rattle.forest.proofs.Laws.{node-or-token, level-shallow, level-deep, level-token, level-node, from_cons}
 use Rattle.table.proofs.Checks.{root-known, root-admitted}
 use Rattle.forest.proofs.Sense.{admitted-tidy}
-use Rattle.statement.specs.declared.statement.Enclosing.{Enclosing}
-use Rattle.statement.specs.declared.statement.Enclosing.TheVariants.{Outside, Record}
 use Rattle.records.specs.Ranges.{holds}
 use Rattle.statement.specs.Statement.{itself, is_statement, or_else, first_find, enclosing_at}
 use Rattle.path.specs.Path.{path_at, deepest_or, deepest, is_subquery}
-use Rattle.cursor_root.specs.Root.{statement_or, root_of, root_at}
+use Rattle.cursor_root.specs.Root.{root_of, root_at}
 
 -- ---- every node of the tree is a node of the table
 
@@ -85,36 +82,36 @@ module _ (t : List ℕ) where
       go false x y = y
 
   Picked : Option Rec → Type 0
-  Picked none = Unit
-  Picked (some r) = IsNode r.index
+  Picked None = Unit
+  Picked (Some r) = IsNode r.index
 
   picked : (best : Option Rec) (test : ℕ → Bool) (l : List Rec) → Picked best → OnPath l → Picked (deepest_or best test l)
   unfolding deepest_or OnPath Picked
   picked best test [] b w = b
-  picked best test (r ∷ l) b w = picked (cond (test r.kind) (some r) best) test l (go (test r.kind)) w.1
+  picked best test (r ∷ l) b w = picked (cond (test r.kind) (Some r) best) test l (go (test r.kind)) w.1
     where
-      go : (c : Bool) → Picked (cond c (some r) best)
+      go : (c : Bool) → Picked (cond c (Some r) best)
       go true = w.0
       go false = b
 
-  Found : Enclosing → Type 0
-  Found Outside = Unit
-  Found (Record n) = IsNode n
+  Found : Option ℕ → Type 0
+  Found None = Unit
+  Found (Some n) = IsNode n
 
-  found-else : (a b : Enclosing) → Found a → Found b → Found (or_else a b)
+  found-else : (a b : Option ℕ) → Found a → Found b → Found (or_else a b)
   unfolding or_else Found
-  found-else Outside b x y = y
-  found-else (Record n) b x y = x
+  found-else None b x y = y
+  found-else (Some n) b x y = x
 
   found-itself : (k i : ℕ) → IsNode i → Found (itself k i)
   unfolding Found
   found-itself k i w = go (is_statement k)
     where
-      go : (b : Bool) → Found (cond b (Record i) Outside)
+      go : (b : Bool) → Found (cond b (Some i) None)
       go true = w
       go false = tt
 
-  found-held : (b : Bool) (e : Enclosing) → Found e → Found (cond b e Outside)
+  found-held : (b : Bool) (e : Option ℕ) → Found e → Found (cond b e None)
   unfolding Found
   found-held true e x = x
   found-held false e x = tt
@@ -130,11 +127,11 @@ module _ (t : List ℕ) where
 
   -- ---- and so the root
 
-  root-from : (b : Option Rec) (e : Enclosing) → IsNode 0 → Picked b → Found e → IsNode (root_of b e)
-  unfolding root_of statement_or Picked Found
-  root-from none Outside z p f = z
-  root-from none (Record n) z p f = f
-  root-from (some r) e z p f = p
+  root-from : (b : Option Rec) (e : Option ℕ) → IsNode 0 → Picked b → Found e → IsNode (root_of b e)
+  unfolding root_of Picked Found
+  root-from None None z p f = z
+  root-from None (Some n) z p f = f
+  root-from (Some r) e z p f = p
 
   on-path : (o : ℕ) → 0 < count t → IsNode 0 → OnPath (path_at t o)
   unfolding path_of OnPath record_at
@@ -144,23 +141,23 @@ module _ (t : List ℕ) where
   unfolding enclosing_at
   in_tree o h z = found o (tree_of t) (unfold Nodes record_at in (z, kids-nodes h, tt))
 
-  pub root-node : (n : ℕ) → verdict t n 0 ≡ Admitted → (o : ℕ) → no_root t (root_at t o) ≡ false
+  pub root-node : (n : ℕ) → verdict t n 0 ≡ Ok tt → (o : ℕ) → no_root t (root_at t o) ≡ false
   unfolding root_at
   root-node n ok o =
       let w = admitted-tidy t n 0 ok in
       let top : IsNode 0 = is-node 0 w.some w.top.0 in
       root-from (deepest is_subquery (path_at t o)) (enclosing_at t o) top
-      (picked none is_subquery (path_at t o) (unfold Picked in tt) (on-path o w.some top)) (in_tree o w.some top)
+      (picked None is_subquery (path_at t o) (unfold Picked in tt) (on-path o w.some top)) (in_tree o w.some top)
 
 -- ---- so it stands in the table, which has few records
 
-pub root-within : (t : List ℕ) (n o : ℕ) {v : Verdict} {i : ℕ} → v ≡ verdict t n 0 → v ≡ Admitted → i ≡ root_at t o → (i < count t) × (count t ≤ most_records)
+pub root-within : (t : List ℕ) (n o : ℕ) {v : Verdict} {i : ℕ} → v ≡ verdict t n 0 → v ≡ Ok tt → i ≡ root_at t o → (i < count t) × (count t ≤ most_records)
 root-within t n o e a q =
     let k = root-known t n (root_at t o) (root-admitted t n (root_at t o) (sym a ∙ e) (root-node t n (sym e ∙ a) o)) in
     rw q (k.1, k.0)
 
 -- and no deeper than a record may be
-pub root-shallow : (t : List ℕ) (n o : ℕ) {v : Verdict} {i : ℕ} → v ≡ verdict t n 0 → v ≡ Admitted → i ≡ root_at t o
+pub root-shallow : (t : List ℕ) (n o : ℕ) {v : Verdict} {i : ℕ} → v ≡ verdict t n 0 → v ≡ Ok tt → i ≡ root_at t o
     → (i < count t) × (count t ≤ most_records) × (depth_at t i ≤ most_depth)
 root-shallow t n o {v} {i} e a q =
     let w = root-within t n o e a q in

@@ -12,15 +12,15 @@ use native.Mathlib.Nat.{mul-div_cancel}
 use borrow.Author.Tests.{ltb-false}
 use lib.Dec.{ltb}
 use lib.ListN.{length, length-map}
+use Rattle.std.specs.Prelude.{Ok, Err}
+use Rattle.lent.specs.declared.refusal.Condition.TheVariants.{BadLength, TooLong, NoRoom, BadOffsets}
+use Rattle.lent.specs.declared.refusal.Refusal.{Refusal}
 use Rattle.records.specs.Table.{count}
 use Rattle.lent.specs.Numbers.{word, number_bytes}
 use Rattle.conditions.specs.Conditions.{most_offsets, offset_bytes, bad_length, too_long, bad_offsets}
 use Rattle.refusals.specs.ByRecord.{rules_from}
 use Rattle.table.specs.Rules.{offset_rules, verdict, offset_verdict}
-use Rattle.lent.specs.Verdicts.{first}
-use Rattle.lent.specs.declared.verdict.Verdict.{Verdict}
-use Rattle.lent.specs.declared.verdict.Verdict.TheVariants.{Admitted, Refused}
-use Rattle.lent.specs.declared.list.Listed.TheVariants.{Entries, Refused as Denied}
+use Rattle.lent.specs.Verdicts.{first, Verdict, refused}
 use Rattle.lent.specs.Lists.{put, list_bytes, Written, Answers}
 use Rattle.lent.proofs.Writes.{written_none, written_one, written_then, length-wide, list-filled, list-short}
 use Rattle.forest.proofs.Orders.{admitted-ordered}
@@ -89,13 +89,13 @@ module _ (src t os : List ℕ) where
     sized = length-wide context_row entry_bytes wide all ∙ rw (length-map (offsets_of os) (context_at src t), many 0 (length os / offset_bytes), e)
 
     pub contexts-filled : (out : List ℕ) {out' : List ℕ} {m : ℕ} → Written context_row all out 0 out' m → k ≤ length out / entry_bytes
-        → Answers [] context_row all out (Entries k) out'
+        → Answers [] context_row all out (Ok k) out'
     contexts-filled out {out'} {m} w h =
         let q : m ≡ k * entry_bytes = omega (arith, w.next, sized) in
         let r : m / entry_bytes ≡ k = rw q (mul-div_cancel k (omega arith)) in
         rw r at (list-filled context_row entry_bytes wide (omega arith) [] all out refl w (omega arith))
 
-    pub contexts-short : (out : List ℕ) → length out / entry_bytes < k → Answers [] context_row all out (Denied 7 k) out
+    pub contexts-short : (out : List ℕ) → length out / entry_bytes < k → Answers [] context_row all out (refused NoRoom k) out
     contexts-short out h =
         let r : k * entry_bytes / entry_bytes ≡ k = mul-div_cancel k (omega arith) in
         rw r at (list-short context_row entry_bytes wide (omega arith) [] all out refl (sym sized) (omega arith))
@@ -104,12 +104,12 @@ module _ (src t os : List ℕ) where
 
 -- what is admitted with 10 among its rules is admitted without it, and has no more offsets than 64
 module _ (t : List ℕ) (n b : ℕ) where
-  both-admitted : Admitted ≡ offset_verdict t n b → (verdict t n 0 ≡ Admitted) × (bad_offsets b ≡ false)
+  both-admitted : Ok tt ≡ offset_verdict t n b → (verdict t n 0 ≡ Ok tt) × (bad_offsets b ≡ false)
   unfolding verdict offset_verdict
   both-admitted = go (bad_length t) (too_long n 0) (bad_offsets b)
     where
-      go : (p q r : Bool) → Admitted ≡ cond p (Refused 1 0) (cond q (Refused 2 0) (cond r (Refused 10 0) (first (rules_from t n 0 (count t)))))
-          → (cond p (Refused 1 0) (cond q (Refused 2 0) (first (rules_from t n 0 (count t)))) ≡ Admitted) × (r ≡ false)
+      go : (p q r : Bool) → Ok tt ≡ cond p (refused BadLength 0) (cond q (refused TooLong 0) (cond r (refused BadOffsets 0) (first (rules_from t n 0 (count t)))))
+          → (cond p (refused BadLength 0) (cond q (refused TooLong 0) (first (rules_from t n 0 (count t)))) ≡ Ok tt) × (r ≡ false)
       go true q r e = absurd (let z : ◌≡◌ {A = ℕ} 0 1 = cc in omega arith)
       go false true r e = absurd (let z : ◌≡◌ {A = ℕ} 0 1 = cc in omega arith)
       go false false true e = absurd (let z : ◌≡◌ {A = ℕ} 0 1 = cc in omega arith)
@@ -123,15 +123,15 @@ module _ (t : List ℕ) (n b : ℕ) where
       left false y p = refl
 
   module _ {v : Verdict} (e : v ≡ offset_verdict t n b) where
-    pub offset-refused : {k d : ℕ} → v ≡ Refused k d → Refused k d ≡ first (offset_rules t n b)
+    pub offset-refused : {r : Refusal} → v ≡ Err r → Err r ≡ first (offset_rules t n b)
     unfolding offset_verdict
     offset-refused q = sym q ∙ e
 
-    pub offset-admitted : v ≡ Admitted → Admitted ≡ first (offset_rules t n b)
+    pub offset-admitted : v ≡ Ok tt → Ok tt ≡ first (offset_rules t n b)
     unfolding offset_verdict
     offset-admitted q = sym q ∙ e
 
-pub ready : (t : List ℕ) (n b : ℕ) {v : Verdict} → v ≡ offset_verdict t n b → v ≡ Admitted → Ready t b
+pub ready : (t : List ℕ) (n b : ℕ) {v : Verdict} → v ≡ offset_verdict t n b → v ≡ Ok tt → Ready t b
 ready t n b e q =
     let w = both-admitted t n b (sym q ∙ e) in
     let z = admitted-sized t n refl w.0 in

@@ -5,7 +5,7 @@ use Prim.Native.Nat.{ℕ, ◌/◌}
 use mathlib.Core.Path.{◌≡◌, ◌∙◌}
 use mathlib.Core.List.{List, [], ◌∷◌, map}
 use lib.ListN.{length, length-map}
-use Rattle.lent.specs.declared.verdict.Verdict.TheVariants.{Admitted}
+use Rattle.std.specs.Prelude.{Ok}
 use Rattle.lent.specs.Fit32.{AllFit32}
 use Rattle.conditions.specs.Conditions.{offset_bytes}
 use Rattle.table.specs.Rules.{verdict}
@@ -15,7 +15,7 @@ use Rattle.cursor.proofs.Fitting.{context-fits}
 use Rattle.cursors.specs.Cursors.{offsets_of, contexts_at}
 use Rattle.cursors.proofs.CursorsLaws.{many}
 
-module _ (src t : List ℕ) (n m : ℕ) (a : Admitted ≡ verdict t n m) where
+module _ (src t : List ℕ) (n m : ℕ) (a : Ok tt ≡ verdict t n m) where
   each_fits : (xs : List ℕ) → AllFit32 context_row (map (context_at src t) xs)
   unfolding AllFit32
   each_fits [] = tt

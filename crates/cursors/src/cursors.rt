@@ -10,9 +10,9 @@ use conditions::whole::{MOST_OFFSETS, OFFSET_BYTES};
 use contexts::context::code_of;
 use cursor::cursor_context::context_from;
 use forest::stretch::child_from;
-use lent::list::{Listed, put_entry};
+use lent::list::put_entry;
 use lent::number::{NUMBER_BYTES, word_at};
-use lent::verdict::{NO_ROOM, Verdict};
+use lent::refusal::{Condition, Refusal, refused};
 use starts::starts::begin_all;
 use table::check::check_offsets;
 
@@ -30,38 +30,44 @@ fn collect_contexts(table: &[u8], source: &[u8], offsets: &[u8], out: &mut [u8])
     begin_all(table, offsets, first, &mut starts);
     let n = offsets.len() / OFFSET_BYTES;
     let mut next = 0;
-    let mut i = 0;
-    while i < n {
+    for i in 0..n {
         let offset = word_at(offsets, OFFSET_BYTES * i);
         let k = code_of(context_from(table, source, offset, starts[i]));
         let name = k.name;
         next = put_entry(out, next, &[k.number, name.start, name.end, k.index]);
-        i += 1;
     }
     next
 }
 
 // Lists the contexts at the offsets, for a table that is admitted.
-fn list_contexts(table: &[u8], source: &[u8], offsets: &[u8], out: &mut [u8]) -> Listed
+fn list_contexts(
+    table: &[u8],
+    source: &[u8],
+    offsets: &[u8],
+    out: &mut [u8],
+) -> Result<u32, Refusal>
     requires { Ready table.now (length offsets.now) }
     ensures { Answers [] context_row (contexts_at source.now table.now offsets.now) out.old result
         out.new }
 {
     let entries = (offsets.len() / OFFSET_BYTES) as u32;
     if out.len() / CONTEXT_BYTES < entries as usize {
-        return Listed::Refused(NO_ROOM, entries);
+        return refused(Condition::NoRoom, entries);
     }
     collect_contexts(table, source, offsets, out);
-    Listed::Entries(entries)
+    Ok(entries)
 }
 
 // What is being typed at each of the offsets.
-pub fn cursor_contexts(table: &[u8], source: &[u8], offsets: &[u8], out: &mut [u8]) -> Listed
+pub fn cursor_contexts(
+    table: &[u8],
+    source: &[u8],
+    offsets: &[u8],
+    out: &mut [u8],
+) -> Result<u32, Refusal>
     ensures { Answers (offset_rules table.now (length source.now) (length offsets.now)) context_row
         (contexts_at source.now table.now offsets.now) out.old result out.new }
 {
-    match check_offsets(table, source, offsets) {
-        Verdict::Refused(k, d) => Listed::Refused(k, d),
-        Verdict::Admitted => list_contexts(table, source, offsets, out),
-    }
+    check_offsets(table, source, offsets)?;
+    list_contexts(table, source, offsets, out)
 }

@@ -10,7 +10,7 @@ use mathlib.Core.Bool.{Bool, true, false, cond}
 use mathlib.Core.List.{List, [], ◌++◌, Memᴰ}
 use native.Mathlib.Omega.{arith}
 use lib.ListN.{length, length-map, drop}
-use Rattle.lent.specs.declared.verdict.Verdict.TheVariants.{Admitted}
+use Rattle.std.specs.Prelude.{Ok}
 use Rattle.table.specs.Rules.{verdict}
 use Rattle.lent.specs.Lists.{list_bytes, buffer}
 use Rattle.forest.specs.Places.{Place, nodes_of}
@@ -32,7 +32,7 @@ use Rattle.demands.proofs.Stages.{staged}
 use Rattle.demands.proofs.Replies.{packing, demanded}
 use Rattle.demands.proofs.Promises.{rows-bytes}
 
-module _ (source t : List ℕ) (ok : verdict t (length source) 0 ≡ Admitted) where
+module _ (source t : List ℕ) (ok : verdict t (length source) 0 ≡ Ok tt) where
   -- ---- one root
 
   module _ (root : Place) (is : RootIn t root) {a : Asked} {reply : ℕ} {out : List ℕ} (s : ServedAt source t root.self.index a reply out) where

@@ -11,7 +11,7 @@ use native.Mathlib.Omega.{arith}
 use lib.ListN.{length, get_or, length-map}
 use mir.Syntax.{w8}
 use mir.Val.{Fits}
-use Rattle.lent.specs.declared.verdict.Verdict.TheVariants.{Admitted}
+use Rattle.std.specs.Prelude.{Ok, Option, Some, None}
 use Rattle.lent.specs.Numbers.{word_limit, OfBytes}
 use Rattle.lent.specs.Fit32.{AllFit32}
 use Rattle.lent.proofs.Cases.{lt-or-le}
@@ -24,12 +24,8 @@ use Rattle.forest.specs.Above.{above}
 use Rattle.forest.proofs.Sense.{admitted-tidy}
 use Rattle.above.specs.Above.{above_row}
 use Rattle.above.proofs.Fitting.{above-fits, above-few}
-use Rattle.brackets.specs.declared.bracket_matching.Hint.{Hint}
-use Rattle.brackets.specs.declared.bracket_matching.Hint.TheVariants.{Opener, NoOpener}
 use Rattle.brackets.specs.Brackets.{openers_left, stack_left, hint_of, opener_row}
 use Rattle.brackets.proofs.Fitting.{openers-fit, openers-few, hint-within}
-use Rattle.statement.specs.declared.statement.Enclosing.{Enclosing}
-use Rattle.statement.specs.declared.statement.Enclosing.TheVariants.{Outside, Record}
 use Rattle.statement.specs.Statement.{enclosing_at}
 use Rattle.statement.proofs.Fitting.{statement-within}
 use Rattle.names.specs.Bindings.{binding_row}
@@ -47,10 +43,10 @@ use Rattle.cursor_root.proofs.RootLaws.{root-within}
 use Rattle.offers.specs.WithNames.{with_names_at}
 use Rattle.offers.proofs.Fitting.{offered-fit, offered-few}
 use Rattle.everything.proofs.Fitting.{everything-fits}
-use Rattle.replies.specs.Reply.{half, hint_record}
+use Rattle.replies.specs.Reply.{half, record_number}
 use Rattle.demands.specs.declared.Question.{Question}
 use Rattle.demands.specs.declared.Question.TheVariants.{Check, TokenClasses, OpenersLeft, BracketHint, WithNames, TableAliases, ColumnAliases, TableRefs, CursorContext, EnclosingStatement, CursorRoot, WithNamesAt, TableAliasesAt, ColumnAliasesAt, TableRefsAt, RecordsAbove, CursorContexts}
-use Rattle.demands.specs.Questions.{Asked, number, a-root, a-record, Matter, list, statement_record, matter}
+use Rattle.demands.specs.Questions.{Asked, number, a-root, a-record, Matter, list, matter}
 use Rattle.demands.specs.Demand1.{Missing, of-table, of-offsets, of-name, Demand1}
 use Rattle.demands.specs.Demand2.{Demand2}
 use Rattle.demands.specs.Numbers.{Admits, SaidFits, Numbers, EntryFits}
@@ -68,7 +64,7 @@ not-seven (broken-12 e h b) q = omega arith
 not-seven (broken-6 e h b) q = omega arith
 
 module _ (a : Asked) (m : Matter) (h : Admits a m) where
-  admitted : Admitted ≡ verdict a.table (length a.source) m.message
+  admitted : Ok tt ≡ verdict a.table (length a.source) m.message
   admitted = sym ((admitted-exactly a.table (length a.source) m.message).1 (λ k d b. not-seven b (h k d (of-table b))))
 
   good-offsets : BadOffsets m.offsets → ⊥
@@ -93,18 +89,12 @@ number_fits : (n : ℕ) → n < word_limit → SaidFits (number n)
 unfolding SaidFits
 number_fits n h = h
 
-hint-fits : (h : Hint) → ((i : ℕ) → h ≡ Opener i → i < most_records) → hint_record h < word_limit
-unfolding hint_record
-hint-fits (Opener i) w = omega (arith, w i refl)
-hint-fits NoOpener w = omega arith
-
-statement-fits : (e : Enclosing) → ((i : ℕ) → e ≡ Record i → i < most_records) → statement_record e < word_limit
-unfolding statement_record
-statement-fits Outside w = omega arith
-statement-fits (Record i) w = omega (arith, w i refl)
+record-fits : (x : Option ℕ) → ((i : ℕ) → x ≡ Some i → i < most_records) → record_number x < word_limit
+record-fits None w = omega arith
+record-fits (Some i) w = omega (arith, w i refl)
 
 -- the lists of a record of an admitted table
-module _ (src t : List ℕ) (n i : ℕ) (b : OfBytes t) (v : Admitted ≡ verdict t n 0) (h : i < count t) where
+module _ (src t : List ℕ) (n i : ℕ) (b : OfBytes t) (v : Ok tt ≡ verdict t n 0) (h : i < count t) where
   names-said : SaidFits (list binding_row (with_names src t i))
   names-said = list-fits binding_row (with_names src t i) (with-names-fit src t n 0 i v h b) (omega (arith, with-names-few src t n 0 i v h))
 
@@ -121,7 +111,7 @@ module _ (src t : List ℕ) (n i : ℕ) (b : OfBytes t) (v : Admitted ≡ verdic
   above-said = list-fits above_row (above t i) (above-fits t n 0 i v h) (omega (arith, above-few t n 0 i v h))
 
 -- those of a table
-module _ (src t : List ℕ) (n : ℕ) (v : Admitted ≡ verdict t n 0) where
+module _ (src t : List ℕ) (n : ℕ) (v : Ok tt ≡ verdict t n 0) where
   classes-said : SaidFits (list class_row (classes_of src t))
   classes-said = list-fits class_row (classes_of src t) (classes-fit src t n 0 v) (omega (arith, classes-few src t n 0 v, (admitted-tidy t n 0 (sym v)).few))
 
@@ -157,14 +147,14 @@ said_fits Check a b h = number_fits 0 (omega arith)
 said_fits TokenClasses a b h = classes-said a.source a.table _ (admitted a _ h)
 said_fits OpenersLeft a b h = openers-said a.source a.table _ (admitted a _ h)
 said_fits BracketHint a b h =
-    number_fits _ (hint-fits (hint_of a.message (stack_left a.table)) (λ i e. hint-within a.table (length a.source) (length a.message) (admitted a _ h) a.message e))
+    number_fits _ (record-fits (hint_of a.message (stack_left a.table)) (λ i e. hint-within a.table (length a.source) (length a.message) (admitted a _ h) a.message e))
 said_fits WithNames a b h = names-said a.source a.table _ a.root b (admitted a _ h) (node_in a.table a.root (there a _ h))
 said_fits TableAliases a b h = aliases-said a.source a.table _ a.root b (admitted a _ h) (node_in a.table a.root (there a _ h))
 said_fits ColumnAliases a b h = columns-said a.source a.table _ a.root b (admitted a _ h) (node_in a.table a.root (there a _ h))
 said_fits TableRefs a b h = references-said a.source a.table _ a.root b (admitted a _ h) (node_in a.table a.root (there a _ h))
 said_fits CursorContext a b h = context-said a.source a.table _ (admitted a _ h) a.offset
 said_fits EnclosingStatement a b h =
-    number_fits _ (statement-fits (enclosing_at a.table a.offset) (λ i e. statement-within a.table (length a.source) 0 a.offset (admitted a _ h) e))
+    number_fits _ (record-fits (enclosing_at a.table a.offset) (λ i e. statement-within a.table (length a.source) 0 a.offset (admitted a _ h) e))
 said_fits CursorRoot a b h = number_fits _ (omega (arith, root_in a.source a.table _ (admitted a _ h) a.offset))
 said_fits WithNamesAt a b h =
     let v = admitted a _ h in

@@ -12,13 +12,14 @@ use mathlib.Core.Logic.{⊎_elim}
 use native.Mathlib.Omega.{arith}
 use borrow.Author.Tests.{lt-ltb, le-ltb}
 use lib.Dec.{ltb}
-use Rattle.lent.specs.declared.verdict.Verdict.{Verdict}
-use Rattle.lent.specs.declared.verdict.Verdict.TheVariants.{Admitted, Refused}
+use Rattle.std.specs.Prelude.{Ok, Err}
+use Rattle.lent.specs.declared.refusal.Condition.TheVariants.{BadOffsets as A-offsets, BadLength as A-length, TooLong as A-limit}
+use Rattle.lent.specs.declared.refusal.Refusal.{Refusal}
 use Rattle.records.specs.Table.{count}
 use Rattle.conditions.specs.Conditions.{bad_length, too_long, bad_offsets}
 use Rattle.refusals.specs.ByRecord.{rules_from}
 use Rattle.table.specs.Rules.{offset_rules, verdict}
-use Rattle.lent.specs.Verdicts.{first}
+use Rattle.lent.specs.Verdicts.{first, Verdict, refused, number_of}
 use Rattle.table.specs.Exactly.{BadOffsets, Broken, broken-1, broken-2, broken-3, broken-4, broken-5, broken-12, broken-6, rank, place}
 use Rattle.lent.proofs.Cases.{lt-or-le}
 use Rattle.table.proofs.Exactly.{clash, bad-offsets, refused-exactly}
@@ -84,17 +85,17 @@ module _ {t : List ℕ} {n m : ℕ} where
 -- a verdict on a table with 10 after 1 and 2, where the offsets are bad or not
 unfoldable pub amid : Bool → Verdict → Verdict
 amid false v = v
-amid true Admitted = Refused 10 0
-amid true (Refused k d) = cond (ltb k 3) (Refused k d) (Refused 10 0)
+amid true (Ok tt) = refused A-offsets 0
+amid true (Err r) = cond (ltb (number_of r.condition) 3) (Err r) (refused A-offsets 0)
 
 module _ (t : List ℕ) (n b : ℕ) where
   abbrev records : Verdict
   records = first (rules_from t n 0 (count t))
 
   -- a record's refusal is none of the first two
-  late : bad_length t ≡ false → too_long n 0 ≡ false → (k d : ℕ) → records ≡ Refused k d → 3 ≤ k
+  late : bad_length t ≡ false → too_long n 0 ≡ false → (r : Refusal) → records ≡ Err r → 3 ≤ number_of r.condition
   unfolding verdict
-  late p q k d e = go k d ((refused-exactly t n 0 k d).0 (rw (p, q) e)).holds
+  late p q r e = go (number_of r.condition) r.detail ((refused-exactly t n 0 _ _).0 (rw (p, q, e) (refl, refl))).holds
     where
       go : (k d : ℕ) → Broken t n 0 k d → 3 ≤ k
       go k d (broken-1 u z x) = absurd (clash p x)
@@ -109,12 +110,12 @@ module _ (t : List ℕ) (n b : ℕ) where
   unfolding verdict amid
   amid-rules = go (bad_length t) (too_long n 0) (bad_offsets b) refl refl
     where
-      behind-two : bad_length t ≡ false → too_long n 0 ≡ false → (v : Verdict) → records ≡ v → Refused 10 0 ≡ amid true v
-      behind-two p q Admitted e = refl
-      behind-two p q (Refused k d) e = rw (le-ltb k 3 (late p q k d e))
+      behind-two : bad_length t ≡ false → too_long n 0 ≡ false → (v : Verdict) → records ≡ v → refused A-offsets 0 ≡ amid true v
+      behind-two p q (Ok tt) e = refl
+      behind-two p q (Err r) e = rw (le-ltb (number_of r.condition) 3 (late p q r e))
 
       go : (p q r : Bool) → bad_length t ≡ p → too_long n 0 ≡ q
-          → cond p (Refused 1 0) (cond q (Refused 2 0) (cond r (Refused 10 0) records)) ≡ amid r (cond p (Refused 1 0) (cond q (Refused 2 0) records))
+          → cond p (refused A-length 0) (cond q (refused A-limit 0) (cond r (refused A-offsets 0) records)) ≡ amid r (cond p (refused A-length 0) (cond q (refused A-limit 0) records))
       go true q true e f = refl
       go true q false e f = refl
       go false true true e f = refl

@@ -18,7 +18,7 @@ use Rattle.cursors.specs.Cursors.{offsets_of, contexts_at}
 use Rattle.replies.specs.Reply.{packed, answered}
 use Rattle.demands.specs.declared.Question.TheVariants.{CursorContext, CursorContexts}
 use Rattle.demands.specs.Questions.{Asked, Matter, matter, answer_of, said_bytes}
-use Rattle.demands.specs.Demand1.{Missing, Holds, of-table, of-offsets, of-name, of_room, place_in, First, Refusal, Answer}
+use Rattle.demands.specs.Demand1.{Missing, Holds, of-table, of-offsets, of-name, of_room, place_in, First, RefusedFor, Answer}
 use Rattle.demands.specs.Demand2.{Meets}
 use Rattle.demands.specs.OneByOne.{entry_at, SinglyAt, Alike, RefusedAlike, OneByOne}
 use Rattle.demands.proofs.Offsets.{no-offsets}
@@ -89,7 +89,7 @@ module _ (a : Asked) (i : ℕ) (b : Asked) (s : SinglyAt a i b) where
         (x.1.answer f, ap (take context_bytes) e ∙ front typed rest)
 
     -- where the call is refused by a rule of the table, and not for its offsets or its room
-    single-refused : {k d : ℕ} → First a (matter CursorContexts a) k d → Broken a.table (length a.source) 0 k d → Refusal r k d
+    single-refused : {k d : ℕ} → First a (matter CursorContexts a) k d → Broken a.table (length a.source) 0 k d → RefusedFor r k d
     unfolding matter
     single-refused {k} {d} f y = (x.0.exactly k d).1 (record { holds = of-table here; none_before = go })
       where
@@ -121,14 +121,14 @@ module _ (a : Asked) {r : ℕ} {o : List ℕ} (x : Meets CursorContexts a r o) w
             (w.0, w.1 ∙ rw (same_typed a i b s) (sym (ap (entry_at i) e ∙ entry (context_at a.source a.table) (offsets_of a.offsets) i _ h)));
       }
 
-  refused-alike : (k d : ℕ) → Refusal r k d → RefusedAlike a k d
+  refused-alike : (k d : ℕ) → RefusedFor r k d → RefusedAlike a k d
   unfolding matter
   refused-alike k d y not-10 not-7 i b s r' o' z = go f.holds
     where
       f : First a all k d
       f = (x.0.exactly k d).0 y
 
-      go : Holds a all k d → Refusal r' k d
+      go : Holds a all k d → RefusedFor r' k d
       go (of-table q) = single-refused a i b s z f q
       go (of-offsets e u w) = absurd (not-10 e)
       go (of-name e u w) = absurd (unfold Missing in w)

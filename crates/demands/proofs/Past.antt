@@ -9,6 +9,7 @@ use mathlib.Core.Logic.{⊎_elim}
 use native.Mathlib.Omega.{arith}
 use native.Mathlib.Nat.{add-zero, zero-add}
 use lib.ListN.{length}
+use Rattle.std.specs.Prelude.{Option, unwrap_or}
 use Rattle.records.specs.declared.record.Rec.{Rec}
 use Rattle.records.specs.Table.{count, depth_at, record_at, run, from}
 use Rattle.forest.specs.Forest.{level, kids, inside}
@@ -17,7 +18,6 @@ use Rattle.forest.specs.inner.Ordered.{Ordered}
 use Rattle.forest.proofs.Laws.{from_cons, run-same}
 use Rattle.forest.proofs.Orders.{admitted-ordered}
 use Rattle.forest.proofs.Scans.{sweep, sweep-fold, fold-tokens}
-use Rattle.tokens.specs.declared.function.Arguments.{Arguments}
 use Rattle.tokens.specs.declared.sought.Sought.{Sought}
 use Rattle.tokens.specs.declared.sought.Sought.TheVariants.{LastToken, ArgumentIndex}
 use Rattle.tokens.specs.LastToken.{last_two, dotted}
@@ -113,5 +113,5 @@ same-past src t u o i p v v' w a h n =
     record {
       last-token = two t u o i y z w a p h;
       name = ap (dotted src) (two t u o i y z w a p h);
-      argument = ap (λ (x : Arguments). x.index) (argued t u o i y z w a p h);
+      argument = ap (λ (x : Option ℕ). unwrap_or x 0) (argued t u o i y z w a p h);
     }

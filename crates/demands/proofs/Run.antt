@@ -13,8 +13,8 @@ use native.Mathlib.Nat.{zero-add}
 use borrow.Author.Tests.{le-leb, lt-leb, leb-true}
 use lib.ListN.{length}
 use lib.Dec.{leb}
+use Rattle.std.specs.Prelude.{Ok, Option, Some, None}
 use Rattle.records.specs.declared.record.Rec.{Rec}
-use Rattle.lent.specs.declared.verdict.Verdict.TheVariants.{Admitted}
 use Rattle.records.specs.Kinds.{last_node, select_statement, describe_statement}
 use Rattle.records.specs.Table.{kind_at, record_at, run, from}
 use Rattle.forest.specs.Forest.{Forest, nil, token, node}
@@ -27,13 +27,11 @@ use Rattle.forest.proofs.Laws.{node-or-token}
 use Rattle.forest.proofs.Sense.{admitted-tidy}
 use Rattle.forest.proofs.Places.{stands, nodes-in-order}
 use Rattle.table.proofs.Exactly.{admitted-exactly}
-use Rattle.statement.specs.declared.statement.Enclosing.{Enclosing}
-use Rattle.statement.specs.declared.statement.Enclosing.TheVariants.{Outside, Record}
 use Rattle.statement.specs.Statement.{enclosing_at, Hold, Candidate, inside_of, Innermost, FirstInnermost, NoCandidate}
 use Rattle.statement.proofs.Statements.{given-first, none-exactly}
-use Rattle.replies.specs.Reply.{no_record as nothing}
+use Rattle.replies.specs.Reply.{no_record as nothing, record_number}
 use Rattle.demands.specs.declared.Question.TheVariants.{EnclosingStatement}
-use Rattle.demands.specs.Questions.{Asked, number, statement_record, matter, answer_of, said_bytes}
+use Rattle.demands.specs.Questions.{Asked, number, matter, answer_of, said_bytes}
 use Rattle.demands.specs.Demand1.{Missing, Holds, of-table, of-offsets, of-name, of_room}
 use Rattle.demands.specs.Demand2.{Demand2}
 use Rattle.demands.proofs.Offsets.{no-offsets}
@@ -216,19 +214,18 @@ module _ (t : List ℕ) (n o : ℕ) (w : Tidy t n) where
           first = comes-first;
         }
 
-  search-picks : Picks t o (statement_record (enclosing_at t o))
-  unfolding statement_record
+  search-picks : Picks t o (record_number (enclosing_at t o))
   search-picks = go (enclosing_at t o) refl
     where
-      go : (e : Enclosing) → enclosing_at t o ≡ e → Picks t o (statement_record e)
-      go Outside q = none-picked ((none-exactly t o).0 q)
-      go (Record x) q = one-picked x (given-first t o x q)
+      go : (e : Option ℕ) → enclosing_at t o ≡ e → Picks t o (record_number e)
+      go None q = none-picked ((none-exactly t o).0 q)
+      go (Some x) q = one-picked x (given-first t o x q)
 
-pub picks : (a : Asked) → verdict a.table (length a.source) 0 ≡ Admitted
+pub picks : (a : Asked) → verdict a.table (length a.source) 0 ≡ Ok tt
     → (x : ℕ) × ((matter EnclosingStatement a).said ≡ number x) × Picks a.table a.offset x
 unfolding matter
 picks a ok = (
-  statement_record (enclosing_at a.table a.offset),
+  record_number (enclosing_at a.table a.offset),
   refl,
   search-picks a.table (length a.source) a.offset (admitted-tidy a.table (length a.source) 0 ok),
 )
@@ -251,7 +248,7 @@ module _ (t : List ℕ) (o : ℕ) where
 
 -- ---- the reply
 
-module _ (a : Asked) (ok : verdict a.table (length a.source) 0 ≡ Admitted) where
+module _ (a : Asked) (ok : verdict a.table (length a.source) 0 ≡ Ok tt) where
   -- no refusal's condition holds
   no-refusal : (k d : ℕ) → Holds a (matter EnclosingStatement a) k d → ⊥
   unfolding matter said_bytes

@@ -6,22 +6,20 @@ use mathlib.Core.List.{List, [], ◌∷◌, ◌++◌, map}
 use mathlib.Core.Logic.{⊎_elim}
 use native.Mathlib.Omega.{arith}
 use lib.ListN.{length}
-use Rattle.lent.specs.declared.verdict.Verdict.TheVariants.{Admitted}
+use Rattle.std.specs.Prelude.{Ok, Option}
 use Rattle.records.specs.Table.{count}
 use Rattle.table.specs.Rules.{verdict}
 use Rattle.table.proofs.Exactly.{admitted-exactly}
 use Rattle.lent.proofs.Cases.{lt-or-le}
 use Rattle.names.specs.declared.names.NameBinding.{NameBinding}
 use Rattle.names.specs.Bindings.{binding_row}
-use Rattle.brackets.specs.declared.bracket_matching.Hint.{Hint}
 use Rattle.brackets.specs.Brackets.{opener_row}
-use Rattle.statement.specs.declared.statement.Enclosing.{Enclosing}
 use Rattle.lists.specs.Scope.{table_refs}
 use Rattle.cursor.specs.CursorContext.{context_at}
 use Rattle.cursors.specs.Cursors.{offsets_of}
 use Rattle.cursor_root.specs.Root.{root_at}
 use Rattle.cursor_root.proofs.RootLaws.{root-node}
-use Rattle.replies.specs.Reply.{hint_record}
+use Rattle.replies.specs.Reply.{record_number}
 use Rattle.rust.specs.Rust.{Call, stops, gives, Askable}
 use Rattle.rust.specs.ScopeRs.{QueryScope, scope_at, FourLists}
 use Rattle.rust.proofs.BracketMatchingRs.{bracket-matching-rs}
@@ -30,7 +28,7 @@ use Rattle.rust.proofs.ScopeRs.{scope-rs}
 use Rattle.rust.proofs.CursorContextRs.{cursor-context-rs}
 use Rattle.demands.specs.declared.Question.{Question}
 use Rattle.demands.specs.declared.Question.TheVariants.{Check, TokenClasses, OpenersLeft, BracketHint, WithNames, TableAliases, ColumnAliases, TableRefs, CursorContext, EnclosingStatement, CursorRoot, WithNamesAt, TableAliasesAt, ColumnAliasesAt, TableRefsAt, RecordsAbove, CursorContexts}
-use Rattle.demands.specs.Questions.{Asked, Matter, number, rows, list, statement_record, matter}
+use Rattle.demands.specs.Questions.{Asked, Matter, number, rows, list, matter}
 use Rattle.demands.specs.Demand1.{NoNode, Missing, Holds, of-table, of-name}
 use Rattle.demands.specs.SecondReading.{Scoped, lists, lone-mark, GaveEach, Agrees, SecondReadings}
 use Rattle.demands.proofs.Stages.{a-node}
@@ -43,7 +41,7 @@ module _ (a : Asked) (ask : Askable a.source a.table) where
   abbrev t : List ℕ
   t = a.table
 
-  module _ (ok : verdict t (length source) 0 ≡ Admitted) where
+  module _ (ok : verdict t (length source) 0 ≡ Ok tt) where
     -- the scope of a record
     module _ (i : ℕ) (h : i < count t) {P : QueryScope → Type 0} where
       scoped : ((q : QueryScope) → FourLists source t i q → P q) → Scoped a i P
@@ -67,7 +65,7 @@ module _ (a : Asked) (ask : Askable a.source a.table) where
     named i w = ⊎_elim (λ h. h) (λ h. absurd (w (λ g k. omega arith))) (lt-or-le i (count t))
 
 -- where no condition holds, the table is admitted
-admits : (a : Asked) (m : Matter) → m.message ≡ 0 → ((k d : ℕ) → Holds a m k d → ⊥) → verdict a.table (length a.source) 0 ≡ Admitted
+admits : (a : Asked) (m : Matter) → m.message ≡ 0 → ((k d : ℕ) → Holds a m k d → ⊥) → verdict a.table (length a.source) 0 ≡ Ok tt
 admits a m e f = (admitted-exactly a.table (length a.source) 0).1 (λ k d b. f k d (of-table (rw e b)))
 
 agrees : (q : Question) (a : Asked) → Askable a.source a.table → ((k d : ℕ) → Holds a (matter q a) k d → ⊥) → Agrees q a (matter q a).said
@@ -75,13 +73,13 @@ unfolding Agrees matter Missing
 agrees Check a ask f = tt
 agrees TokenClasses a ask f = record { it = _; gave = (semantic-tokens-rs a.source a.table (admits a _ refl f) ask).sorted; so = refl }
 agrees OpenersLeft a ask f = ap (list opener_row) (sym (bracket-matching-rs a.table).openers-left)
-agrees BracketHint a ask f = ap (λ (h : Hint). number (hint_record h)) (sym ((bracket-matching-rs a.table).bracket-hint a.message))
+agrees BracketHint a ask f = ap (λ (h : Option ℕ). number (record_number h)) (sym ((bracket-matching-rs a.table).bracket-hint a.message))
 agrees WithNames a ask f = scoped a ask (admits a _ refl f) a.root (named a ask (admits a _ refl f) a.root (λ w. f 8 0 (of-name refl refl w))) (λ q l. ap (list binding_row) (sym l.with-names))
 agrees TableAliases a ask f = scoped a ask (admits a _ refl f) a.root (named a ask (admits a _ refl f) a.root (λ w. f 8 0 (of-name refl refl w))) (λ q l. ap (list binding_row) (sym l.table-aliases))
 agrees ColumnAliases a ask f = scoped a ask (admits a _ refl f) a.root (named a ask (admits a _ refl f) a.root (λ w. f 8 0 (of-name refl refl w))) (λ q l. ap (list binding_row) (sym l.column-aliases))
 agrees TableRefs a ask f = scoped a ask (admits a _ refl f) a.root (named a ask (admits a _ refl f) a.root (λ w. f 8 0 (of-name refl refl w))) (λ q l. record { references = table_refs a.source a.table a.root; compared-are = sym l.table-refs; rows_are = refl })
 agrees CursorContext a ask f = record { contexts = _; given = contexts-each a ask (admits a _ refl f) (a.offset ∷ []); rows_are = refl }
-agrees EnclosingStatement a ask f = ap (λ (e : Enclosing). number (statement_record e)) (sym ((scope-rs a.source a.table (admits a _ refl f) ask).enclosing-statement a.offset))
+agrees EnclosingStatement a ask f = ap (λ (e : Option ℕ). number (record_number e)) (sym ((scope-rs a.source a.table (admits a _ refl f) ask).enclosing-statement a.offset))
 agrees CursorRoot a ask f = tt
 agrees WithNamesAt a ask f =
     let s = spring a (admits a _ refl f) in

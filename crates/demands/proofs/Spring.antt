@@ -5,7 +5,7 @@ use mathlib.Core.Path.{◌≡◌, refl, ap, ◌∙◌}
 use mathlib.Core.List.Memᴰ
 use mathlib.Core.List.{List, map, map-append, Memᴰ}
 use lib.ListN.{length}
-use Rattle.lent.specs.declared.verdict.Verdict.TheVariants.{Admitted}
+use Rattle.std.specs.Prelude.{Ok}
 use Rattle.records.specs.Table.{count}
 use Rattle.table.specs.Rules.{verdict}
 use Rattle.forest.proofs.Sense.{admitted-tidy}
@@ -26,7 +26,7 @@ says-only : {E : Type 0} (row : E → List ℕ) (P : E → Type 0) (es : List E)
 unfolding SaysOnly
 says-only row P es f r m = let w = Memᴰ.of_map row es m in record { it = w.0; its-row = w.2; is-so = f w.0 w.1 }
 
-pub spring : (a : Asked) → verdict a.table (length a.source) 0 ≡ Admitted → Spring a
+pub spring : (a : Asked) → verdict a.table (length a.source) 0 ≡ Ok tt → Spring a
 unfolding matter
 spring a ok =
     let n : ℕ = root_of_cursor a in

@@ -11,11 +11,13 @@ use native.Mathlib.Omega.{arith}
 use borrow.Author.Tests.{lt-ltb, le-leb, ltb-true, ltb-false, leb-true, not-false}
 use lib.ListN.{length}
 use lib.Dec.{ltb}
-use Rattle.lent.specs.declared.verdict.Verdict.{Verdict}
-use Rattle.lent.specs.declared.verdict.Verdict.TheVariants.{Admitted, Refused}
+use Rattle.lent.proofs.Verdicts.{one-refusal}
+use Rattle.std.specs.Prelude.{Ok, Err}
+use Rattle.lent.specs.declared.refusal.Condition.TheVariants.{NoRoom, NoRoot, BadOffsets as A-offsets}
+use Rattle.lent.specs.declared.refusal.Refusal.{Refusal}
 use Rattle.records.specs.Kinds.{is_node, expression}
 use Rattle.records.specs.Table.{count, kind_at}
-use Rattle.lent.specs.Verdicts.{Rule, first}
+use Rattle.lent.specs.Verdicts.{Rule, first, Verdict, refused, number_of, IsRefused}
 use Rattle.conditions.specs.Conditions.{bad_offsets, no_root, no_such_record}
 use Rattle.table.specs.Rules.{verdict}
 use Rattle.table.specs.Exactly.{BadOffsets, Broken, broken-1, broken-2, broken-3, broken-4, broken-5, broken-12, broken-6, rank, place, Least}
@@ -29,8 +31,8 @@ use Rattle.demands.proofs.Offsets.{past-on, past_back, past-free, past-over, pas
 
 -- this verdict, and where it admits the next
 unfoldable pub after : Verdict → Verdict → Verdict
-after Admitted w = w
-after (Refused k d) w = Refused k d
+after (Ok tt) w = w
+after (Err r) w = Err r
 
 pub first-after : (rs more : List Rule) → first (rs ++ more) ≡ after (first rs) (first more)
 unfolding after
@@ -38,7 +40,7 @@ first-after [] more = refl
 first-after (r ∷ rs) more = go r.broken (first-after rs more)
   where
     go : (b : Bool) → first (rs ++ more) ≡ after (first rs) (first more)
-        → cond b (Refused r.number r.detail) (first (rs ++ more)) ≡ after (cond b (Refused r.number r.detail) (first rs)) (first more)
+        → cond b (refused r.condition r.detail) (first (rs ++ more)) ≡ after (cond b (refused r.condition r.detail) (first rs)) (first more)
     go true ih = refl
     go false ih = ih
 
@@ -62,13 +64,13 @@ is-in t i e h = omega (arith, ltb-true i (count t) (not-false _ e))
 
 -- 8
 unfoldable pub rooted : List ℕ → Named → Verdict
-rooted t no_one = Admitted
-rooted t (a-root i) = cond (no_root t i) (Refused 8 0) Admitted
-rooted t (a-record i) = cond (no_such_record t i) (Refused 8 0) Admitted
+rooted t no_one = Ok tt
+rooted t (a-root i) = cond (no_root t i) (refused NoRoot 0) (Ok tt)
+rooted t (a-record i) = cond (no_such_record t i) (refused NoRoot 0) (Ok tt)
 
 -- 7
 unfoldable pub roomy : Said → List ℕ → Verdict
-roomy s out = cond (ltb (length out) (length (said_bytes s))) (Refused 7 (answer_of s)) Admitted
+roomy s out = cond (ltb (length out) (length (said_bytes s))) (refused NoRoom (answer_of s)) (Ok tt)
 
 unfoldable pub staged : Asked → Matter → Verdict
 staged a m = after (amid (bad_offsets m.offsets) (verdict a.table (length a.source) m.message)) (after (rooted a.table m.names) (roomy m.said a.out))
@@ -193,8 +195,8 @@ module _ (a : Asked) (m : Matter) where
 
   -- what a verdict means
   unfoldable pub Means : Verdict → Type 0
-  Means Admitted = Free
-  Means (Refused k d) = First a m k d
+  Means (Ok tt) = Free
+  Means (Err r) = First a m (number_of r.condition) r.detail
 
   -- 8 and 7
   abbrev later : Verdict
@@ -204,14 +206,14 @@ module _ (a : Asked) (m : Matter) where
   unfolding staged after amid Means roomy rooted Missing
   staged-means = go (bad_offsets m.offsets) refl (verdict t n m.message) refl
     where
-      on_room : Nothing → Whole → There → (b : Bool) → ltb (length a.out) (length (said_bytes m.said)) ≡ b → Means (cond b (Refused 7 (answer_of m.said)) Admitted)
+      on_room : Nothing → Whole → There → (b : Bool) → ltb (length a.out) (length (said_bytes m.said)) ≡ b → Means (cond b (refused NoRoom (answer_of m.said)) (Ok tt))
       on_room free w r true e = by-room free w r (ltb-true (length a.out) (length (said_bytes m.said)) e)
       on_room free w r false e = record { none = free; offsets = w; root = r; room = ltb-false (length a.out) (length (said_bytes m.said)) e }
 
       then-room : Nothing → Whole → There → Means (roomy m.said a.out)
       then-room free w r = on_room free w r (ltb (length a.out) (length (said_bytes m.said))) refl
 
-      on-name : Nothing → Whole → (b : Bool) → (b ≡ true → Missing t m.names) → (b ≡ false → There) → Means (after (cond b (Refused 8 0) Admitted) (roomy m.said a.out))
+      on-name : Nothing → Whole → (b : Bool) → (b ≡ true → Missing t m.names) → (b ≡ false → There) → Means (after (cond b (refused NoRoot 0) (Ok tt)) (roomy m.said a.out))
       on-name free w true x y = by_name free w (x refl)
       on-name free w false x y = then-room free w (y refl)
 
@@ -221,16 +223,16 @@ module _ (a : Asked) (m : Matter) where
       then-name free w (a-record i) r = on-name free w (no_such_record t i) (λ e. rw r (not_in t i e)) (λ e q. is-in t i e (rw r at q))
 
       go : (b : Bool) → bad_offsets m.offsets ≡ b → (v : Verdict) → verdict t n m.message ≡ v → Means (after (amid b v) later)
-      go false f Admitted e = then-name ((admitted-exactly t n m.message).0 e) (whole-offsets m.offsets f) m.names refl
-      go false f (Refused k d) e = by-table k d (inl (whole-offsets m.offsets f)) ((refused-exactly t n m.message k d).0 e)
-      go true f Admitted e = by-offsets ((bad-offsets m.offsets).0 f) (λ k d x. absurd ((admitted-exactly t n m.message).0 e k d x))
-      go true f (Refused k d) e = among (ltb k 3) refl ((refused-exactly t n m.message k d).0 e)
+      go false f (Ok tt) e = then-name ((admitted-exactly t n m.message).0 e) (whole-offsets m.offsets f) m.names refl
+      go false f (Err r) e = by-table _ _ (inl (whole-offsets m.offsets f)) ((refused-exactly t n m.message _ _).0 (rw e (refl, refl)))
+      go true f (Ok tt) e = by-offsets ((bad-offsets m.offsets).0 f) (λ k d x. absurd ((admitted-exactly t n m.message).0 e k d x))
+      go true f (Err r) e = among (ltb (number_of r.condition) 3) refl ((refused-exactly t n m.message _ _).0 (rw e (refl, refl)))
         where
-          among : (c : Bool) → ltb k 3 ≡ c → Least t n m.message k d → Means (after (cond c (Refused k d) (Refused 10 0)) later)
-          among true h l = by-table k d (inr (ltb-true k 3 h)) l
+          among : (c : Bool) → ltb (number_of r.condition) 3 ≡ c → Least t n m.message (number_of r.condition) r.detail → Means (after (cond c (Err r) (refused A-offsets 0)) later)
+          among true h l = by-table _ _ (inr (ltb-true (number_of r.condition) 3 h)) l
           among false h l =
               by-offsets ((bad-offsets m.offsets).0 f)
-              (λ k' d' x. omega (arith, l.none_before k' d' x, late-place k d l.holds (ltb-false k 3 h)))
+              (λ k' d' x. omega (arith, l.none_before k' d' x, late-place _ _ l.holds (ltb-false (number_of r.condition) 3 h)))
 
   -- ---- and back
 
@@ -249,9 +251,7 @@ module _ (a : Asked) (m : Matter) where
     where
       go : Holds a m k d → Holds a m k' d' → at k d ≡ at k' d' → (k ≡ k') × (d ≡ d')
       go (of-table b) (of-table c) p =
-          let x : verdict t n m.message ≡ Refused k d = (refused-exactly t n m.message k d).1 (least-of k d f b) in
-          let y : verdict t n m.message ≡ Refused k' d' = (refused-exactly t n m.message k' d').1 (least-of k' d' g c) in
-          (cc, cc)
+          one-refusal (verdict t n m.message) ((refused-exactly t n m.message k d).1 (least-of k d f b)) ((refused-exactly t n m.message k' d').1 (least-of k' d' g c))
       go (of-table b) (of-offsets e z x) p = absurd (past-other _ (sym (at_table k d b).0 ∙ p ∙ at-offsets k' d' e))
       go (of-table b) (of-name e z x) p = absurd (omega (arith, (at_table k d b).1, at-root k' d' e))
       go (of-table b) (of_room e z h) p = absurd (omega (arith, (at_table k d b).1, at_room k' d' e))
@@ -268,10 +268,10 @@ module _ (a : Asked) (m : Matter) where
       go (of_room e z h) (of-name u v y) p = absurd (omega (arith, at_room k d e, at-root k' d' u))
       go (of_room e z h) (of_room u v g) p = (omega arith, omega arith)
 
-  pub staged-refused : (k d : ℕ) → First a m k d → staged a m ≡ Refused k d
+  pub staged-refused : (k d : ℕ) → First a m k d → IsRefused (staged a m) k d
   unfolding Means
-  staged-refused k d f = go (staged a m) refl staged-means
+  staged-refused k d f = go (staged a m) staged-means
     where
-      go : (v : Verdict) → staged a m ≡ v → Means v → staged a m ≡ Refused k d
-      go Admitted e w = absurd (free-none w k d f.holds)
-      go (Refused k' d') e w = let s = same_first k' d' k d w f in e ∙ rw (s.0, s.1)
+      go : (v : Verdict) → Means v → IsRefused v k d
+      go (Ok tt) w = free-none w k d f.holds
+      go (Err r) w = same_first (number_of r.condition) r.detail k d w f

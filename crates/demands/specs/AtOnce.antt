@@ -11,7 +11,7 @@ use Rattle.rooms.specs.Rooms.{everything_bytes}
 use Rattle.demands.specs.declared.Question.{Question}
 use Rattle.demands.specs.declared.Question.TheVariants.{CursorContext, CursorRoot, WithNamesAt, TableAliasesAt, ColumnAliasesAt, TableRefsAt}
 use Rattle.demands.specs.Questions.{asked}
-use Rattle.demands.specs.Demand1.{Answer, Refusal, Refuses}
+use Rattle.demands.specs.Demand1.{Answer, RefusedFor, Refuses}
 use Rattle.demands.specs.Demand2.{Meets}
 
 -- a single question over the table, the source and the offset, in a buffer: its reply, and what is in the buffer afterwards
@@ -54,17 +54,17 @@ module _ {src t : List ℕ} {o : ℕ} {b : Buffers} (s : Singles src t o b) wher
 
   -- refusal k with detail d is that of all six; or it is 7, for the entry or for the first list that is refused so
   pub data FirstRefused (k d : ℕ) : Type 0 where
-    every : Refusal s.context.reply k d → Refusal s.root.reply k d → Refusal s.names.reply k d → Refusal s.aliases.reply k d
-        → Refusal s.columns.reply k d → Refusal s.refs.reply k d → FirstRefused k d
+    every : RefusedFor s.context.reply k d → RefusedFor s.root.reply k d → RefusedFor s.names.reply k d → RefusedFor s.aliases.reply k d
+        → RefusedFor s.columns.reply k d → RefusedFor s.refs.reply k d → FirstRefused k d
     of_entry : k ≡ 7 → d ≡ 1 → Answer s.root.reply → length b.entry < everything_bytes → FirstRefused k d
-    of-names : k ≡ 7 → everything_bytes ≤ length b.entry → Refusal s.names.reply k d → FirstRefused k d
-    of-aliases : k ≡ 7 → everything_bytes ≤ length b.entry → Answer s.names.reply → Refusal s.aliases.reply k d → FirstRefused k d
-    of-columns : k ≡ 7 → everything_bytes ≤ length b.entry → Answer s.names.reply → Answer s.aliases.reply → Refusal s.columns.reply k d
+    of-names : k ≡ 7 → everything_bytes ≤ length b.entry → RefusedFor s.names.reply k d → FirstRefused k d
+    of-aliases : k ≡ 7 → everything_bytes ≤ length b.entry → Answer s.names.reply → RefusedFor s.aliases.reply k d → FirstRefused k d
+    of-columns : k ≡ 7 → everything_bytes ≤ length b.entry → Answer s.names.reply → Answer s.aliases.reply → RefusedFor s.columns.reply k d
         → FirstRefused k d
     of_refs : k ≡ 7 → everything_bytes ≤ length b.entry → Answer s.names.reply → Answer s.aliases.reply → Answer s.columns.reply
-        → Refusal s.refs.reply k d → FirstRefused k d
+        → RefusedFor s.refs.reply k d → FirstRefused k d
 
 -- the call's reply and buffers beside those of any six single questions that meet the demands: it is answered as they are, or refused as they are
 abbrev pub AtOnce : List ℕ → List ℕ → ℕ → Buffers → ℕ → Buffers → Type 0
 AtOnce src t o before reply after = (s : Singles src t o before)
-    → (Answer reply ⊎ Refuses reply) × (Answer reply → Together s after) × ((k d : ℕ) → Refusal reply k d → FirstRefused s k d × (after ≡ before))
+    → (Answer reply ⊎ Refuses reply) × (Answer reply → Together s after) × ((k d : ℕ) → RefusedFor reply k d → FirstRefused s k d × (after ≡ before))

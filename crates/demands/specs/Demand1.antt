@@ -45,7 +45,7 @@ pub record First (a : Asked) (m : Matter) (k d : ℕ) : Type 0 where
 -- ---- the reply
 
 -- it is refusal k with detail d
-pub record Refusal (reply k d : ℕ) : Type 0 where
+pub record RefusedFor (reply k d : ℕ) : Type 0 where
   pub from : 1 ≤ k
   pub to : k ≤ 12
   pub is : reply ≡ packed k d
@@ -59,13 +59,13 @@ pub record Answer (reply : ℕ) : Type 0 where
 pub record Refuses (reply : ℕ) : Type 0 where
   pub number : ℕ
   pub detail : ℕ
-  pub is : Refusal reply number detail
+  pub is : RefusedFor reply number detail
 
 -- ---- the demand, of a question, what it is asked, its reply and what is in the buffer afterwards
 pub record Demand1 (q : Question) (a : Asked) (reply : ℕ) (out : List ℕ) : Type 0 where
   -- it gets an answer or a numbered refusal
   pub either : Answer reply ⊎ Refuses reply
   -- a refusal is given exactly when its condition holds and none before it in the order does
-  pub exactly : (k d : ℕ) → Refusal reply k d ↔ First a (matter q a) k d
+  pub exactly : (k d : ℕ) → RefusedFor reply k d ↔ First a (matter q a) k d
   -- then no byte of the lent buffer is touched
-  pub kept : (k d : ℕ) → Refusal reply k d → out ≡ a.out
+  pub kept : (k d : ℕ) → RefusedFor reply k d → out ≡ a.out

@@ -3,8 +3,7 @@
 -- `Served` is every way in which `ask` can be asked for the references at all roots of a table, with room for each list: of its replies only
 -- its contract is used, demands 1 and 2. The words are in roots/specs/Reach.antt, and on one tree in roots/specs/worked/AllRootsExamples.antt.
 -- Definitions only; the theorems are `demand-3` and `served` in proofs/Demand3.antt.
-use Rattle.std.specs.Prelude.{ℕ, ◌/◌, ◌≤◌, ◌≡◌, cond, List, length}
-use Rattle.lent.specs.declared.verdict.Verdict.TheVariants.{Admitted}
+use Rattle.std.specs.Prelude.{ℕ, ◌/◌, ◌≤◌, ◌≡◌, cond, List, length, Ok}
 use Rattle.records.specs.Table.{records}
 use Rattle.table.specs.Rules.{verdict}
 use Rattle.forest.specs.Places.{Place, nodes_of, selves, node_records, sum}
@@ -58,4 +57,4 @@ pub record Demand3 (source t : List ℕ) (s : Served source t) : Type 0 where
 
 -- of every admitted table, in whatever buffers with room; and there is such a serving of each
 abbrev pub Demanded3 : Type 0
-Demanded3 = (source t : List ℕ) → verdict t (length source) 0 ≡ Admitted → Served source t × ((s : Served source t) → Demand3 source t s)
+Demanded3 = (source t : List ℕ) → verdict t (length source) 0 ≡ Ok tt → Served source t × ((s : Served source t) → Demand3 source t s)

@@ -7,7 +7,7 @@ use Rattle.contexts.specs.Context.{context_bytes}
 use Rattle.cursors.specs.Cursors.{offsets_of}
 use Rattle.demands.specs.declared.Question.TheVariants.{CursorContext, CursorContexts}
 use Rattle.demands.specs.Questions.{Asked}
-use Rattle.demands.specs.Demand1.{Answer, Refusal}
+use Rattle.demands.specs.Demand1.{Answer, RefusedFor}
 use Rattle.demands.specs.Demand2.{Meets}
 
 -- the bytes of entry i
@@ -29,8 +29,8 @@ pub record Alike (a : Asked) (reply : ℕ) (out : List ℕ) : Type 0 where
 
 -- where it is refused, it is for the offsets or for the room, or each single call is refused with the same number and detail
 abbrev pub RefusedAlike : Asked → ℕ → ℕ → Type 0
-RefusedAlike a k d = (k ≡ 10 → ⊥) → (k ≡ 7 → ⊥) → (i : ℕ) (b : Asked) → SinglyAt a i b → (reply' : ℕ) (out' : List ℕ) → Meets CursorContext b reply' out' → Refusal reply' k d
+RefusedAlike a k d = (k ≡ 10 → ⊥) → (k ≡ 7 → ⊥) → (i : ℕ) (b : Asked) → SinglyAt a i b → (reply' : ℕ) (out' : List ℕ) → Meets CursorContext b reply' out' → RefusedFor reply' k d
 
 abbrev pub OneByOne : Type 0
 OneByOne = (a : Asked) (reply : ℕ) (out : List ℕ) → Meets CursorContexts a reply out
-    → (Answer reply → Alike a reply out) × ((k d : ℕ) → Refusal reply k d → RefusedAlike a k d)
+    → (Answer reply → Alike a reply out) × ((k d : ℕ) → RefusedFor reply k d → RefusedAlike a k d)

@@ -1,11 +1,9 @@
 -- What the number of a reply tells a host: two calls of `ask` that got one number got one reply. None is so told apart from every record, and a
 -- refusal from every answer.
 -- Definitions only; the theorem is `one_number` in proofs/OneNumber.antt, over demands 1 and 2 alone.
-use Rattle.std.specs.Prelude.{ℕ, ◌≡◌, List, length}
-use Rattle.lent.specs.declared.verdict.Verdict.{Verdict}
-use Rattle.brackets.specs.declared.bracket_matching.HintReply.{HintReply}
-use Rattle.statement.specs.declared.statement.StatementReply.{StatementReply}
-use Rattle.cursor_root.specs.declared.root.RootReply.{RootReply}
+use Rattle.lent.specs.declared.refusal.Refusal.{Refusal}
+use Rattle.lent.specs.Verdicts.{Verdict}
+use Rattle.std.specs.Prelude.{ℕ, ◌≡◌, List, length, Result, Option}
 use Rattle.demands.specs.Apart.{check_reply, hint_for, statement_for, root_for}
 use Rattle.demands.specs.declared.Question.{Question}
 use Rattle.demands.specs.declared.Question.TheVariants.{Check, BracketHint, EnclosingStatement, CursorRoot}
@@ -17,13 +15,13 @@ use Rattle.demands.specs.Demand2.{Meets}
 abbrev pub check_of : Asked → Verdict
 check_of a = check_reply a.table (length a.source)
 
-abbrev pub hints_of : Asked → HintReply
+abbrev pub hints_of : Asked → Result (Option ℕ) Refusal
 hints_of a = hint_for a.table (length a.source) a.message
 
-abbrev pub statements_of : Asked → StatementReply
+abbrev pub statements_of : Asked → Result (Option ℕ) Refusal
 statements_of a = statement_for a.table (length a.source) a.offset
 
-abbrev pub roots_of : Asked → RootReply
+abbrev pub roots_of : Asked → Result ℕ Refusal
 roots_of a = root_for a.table (length a.source) a.offset
 
 -- two calls for q, over any tables, that got the number r got one reply

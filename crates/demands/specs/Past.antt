@@ -1,14 +1,13 @@
 -- Stop once past the cursor: what stands behind the first token that starts after the offset has no part in the last token, nor in what is dotted.
 -- t and u are the bytes of two tables, src those of the source, o the offset, i and p records' numbers.
 -- Definitions only; the theorem is `same-past` in proofs/Past.antt.
-use Rattle.std.specs.Prelude.{ℕ, ◌≤◌, ◌<◌, ◌≡◌, List, ◌⊎◌, length}
-use Rattle.lent.specs.declared.verdict.Verdict.TheVariants.{Admitted}
+use Rattle.std.specs.Prelude.{ℕ, ◌≤◌, ◌<◌, ◌≡◌, List, ◌⊎◌, length, Ok}
 use Rattle.records.specs.Table.{count, kind_at, start_at, record_at}
 use Rattle.forest.specs.Forest.{inside}
 use Rattle.table.specs.Rules.{verdict}
 use Rattle.table.specs.Exactly.{Node, Token}
 use Rattle.tokens.specs.LastToken.{last_two, dotted}
-use Rattle.tokens.specs.Function.{arguments}
+use Rattle.tokens.specs.Function.{argument_index}
 
 -- record i is the first token that starts after the offset, of any kind and in whatever node; where there is none, i is the count of records
 pub record FirstPast (t : List ℕ) (o i : ℕ) : Type 0 where
@@ -24,9 +23,9 @@ pub record AgreeTo (i : ℕ) (t u : List ℕ) : Type 0 where
 pub record SameReplies (src : List ℕ) (o p : ℕ) (t u : List ℕ) : Type 0 where
   pub last-token : last_two o (inside t p) ≡ last_two o (inside u p)
   pub name : dotted src (last_two o (inside t p)) ≡ dotted src (last_two o (inside u p))
-  pub argument : (arguments o (inside t p)).index ≡ (arguments o (inside u p)).index
+  pub argument : argument_index o (inside t p) ≡ argument_index o (inside u p)
 
 -- two admitted tables which agree up to and with that token, over the same source, give equal replies for every node that stands before it
 abbrev pub SamePast : Type 0
-SamePast = (src t u : List ℕ) (o i p : ℕ) → verdict t (length src) 0 ≡ Admitted → verdict u (length src) 0 ≡ Admitted
+SamePast = (src t u : List ℕ) (o i p : ℕ) → verdict t (length src) 0 ≡ Ok tt → verdict u (length src) 0 ≡ Ok tt
     → FirstPast t o i → AgreeTo i t u → p < i → Node (kind_at t p) → SameReplies src o p t u

@@ -1,11 +1,9 @@
 -- Every question: what it is asked, and what documents 01 and 02 say to it.
 -- Definitions only.
-use Rattle.std.specs.Prelude.{ℕ, List, [], ◌∷◌, ◌++◌, map, length, drop}
+use Rattle.std.specs.Prelude.{ℕ, List, [], ◌∷◌, ◌++◌, map, length, drop, Option, Some, None}
 use Rattle.lent.specs.Lists.{list_bytes}
 use Rattle.forest.specs.Above.{above}
 use Rattle.above.specs.Above.{above_row}
-use Rattle.statement.specs.declared.statement.Enclosing.{Enclosing}
-use Rattle.statement.specs.declared.statement.Enclosing.TheVariants.{Outside, Record}
 use Rattle.class_list.specs.Classes.{classes_of, class_row}
 use Rattle.brackets.specs.Brackets.{openers_left, stack_left, hint_of, opener_row}
 use Rattle.lists.specs.Scope.{with_names, table_aliases, column_aliases, table_refs}
@@ -17,7 +15,7 @@ use Rattle.cursor.specs.CursorContext.{context_at}
 use Rattle.cursors.specs.Cursors.{contexts_at}
 use Rattle.cursor_root.specs.Root.{root_at}
 use Rattle.offers.specs.WithNames.{with_names_at}
-use Rattle.replies.specs.Reply.{no_record as nothing, hint_record}
+use Rattle.replies.specs.Reply.{record_number}
 use Rattle.demands.specs.declared.Question.{Question}
 use Rattle.demands.specs.declared.Question.TheVariants.{Check, TokenClasses, OpenersLeft, BracketHint, WithNames, TableAliases, ColumnAliases, TableRefs, CursorContext, EnclosingStatement, CursorRoot, WithNamesAt, TableAliasesAt, ColumnAliasesAt, TableRefsAt, RecordsAbove, CursorContexts}
 
@@ -75,23 +73,18 @@ of_record i s = record { message = 0; offsets = 0; names = a-record i; said = s 
 abbrev pub list : {E : Type 0} → (E → List ℕ) → List E → Said
 list row es = rows (map row es)
 
--- a statement's record, or none
-unfoldable pub statement_record : Enclosing → ℕ
-statement_record Outside = nothing
-statement_record (Record n) = n
-
 -- each question
 unfoldable pub matter : Question → Asked → Matter
 matter Check a = plain (number 0)
 matter TokenClasses a = plain (list class_row (classes_of a.source a.table))
 matter OpenersLeft a = plain (list opener_row (openers_left a.table))
-matter BracketHint a = of_message a.message (number (hint_record (hint_of a.message (stack_left a.table))))
+matter BracketHint a = of_message a.message (number (record_number (hint_of a.message (stack_left a.table))))
 matter WithNames a = of_root a.root (list binding_row (with_names a.source a.table a.root))
 matter TableAliases a = of_root a.root (list binding_row (table_aliases a.source a.table a.root))
 matter ColumnAliases a = of_root a.root (list binding_row (column_aliases a.source a.table a.root))
 matter TableRefs a = of_root a.root (list reference_row (table_refs a.source a.table a.root))
 matter CursorContext a = plain (list context_row (context_at a.source a.table a.offset ∷ []))
-matter EnclosingStatement a = plain (number (statement_record (enclosing_at a.table a.offset)))
+matter EnclosingStatement a = plain (number (record_number (enclosing_at a.table a.offset)))
 matter CursorRoot a = plain (number (root_at a.table a.offset))
 matter WithNamesAt a = plain (list binding_row (with_names_at a.source a.table a.offset))
 matter TableAliasesAt a = plain (list binding_row (table_aliases a.source a.table (root_at a.table a.offset)))

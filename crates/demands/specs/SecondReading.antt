@@ -16,7 +16,7 @@ use Rattle.contexts.specs.declared.context.CursorContext.{CursorContext as Conte
 use Rattle.contexts.specs.Context.{context_row}
 use Rattle.cursors.specs.Cursors.{offsets_of}
 use Rattle.cursor_root.specs.Root.{root_at}
-use Rattle.replies.specs.Reply.{packed, answered, hint_record}
+use Rattle.replies.specs.Reply.{packed, answered, record_number}
 use Rattle.rust.specs.Rust.{Call, stops, gives, Askable}
 use Rattle.rust.specs.BracketMatchingRs.{collect_brackets, enrich, hint}
 use Rattle.rust.specs.SemanticTokensRs.{compute}
@@ -24,7 +24,7 @@ use Rattle.rust.specs.ScopeRs.{QueryScope, find_enclosing_statement, unquoted_at
 use Rattle.rust.specs.CursorContextRs.{cursor_context, as_told}
 use Rattle.demands.specs.declared.Question.{Question}
 use Rattle.demands.specs.declared.Question.TheVariants.{Check, TokenClasses, OpenersLeft, BracketHint, WithNames, TableAliases, ColumnAliases, TableRefs, CursorContext, EnclosingStatement, CursorRoot, WithNamesAt, TableAliasesAt, ColumnAliasesAt, TableRefsAt, RecordsAbove, CursorContexts}
-use Rattle.demands.specs.Questions.{Asked, Said, number, rows, list, statement_record, matter, answer_of, written}
+use Rattle.demands.specs.Questions.{Asked, Said, number, rows, list, matter, answer_of, written}
 use Rattle.demands.specs.Demand1.{Holds}
 use Rattle.demands.specs.Demand2.{Meets}
 
@@ -71,13 +71,13 @@ unfoldable pub Agrees : Question → Asked → Said → Type 0
 Agrees Check a s = Unit
 Agrees TokenClasses a s = Gave (compute (kind_at a.table 0) (tree a) a.source) (λ cs. s ≡ list class_row cs)
 Agrees OpenersLeft a s = s ≡ list opener_row (map index_of (collect_brackets (tree a) []))
-Agrees BracketHint a s = s ≡ number (hint_record (hint (enrich a.message (tree a))))
+Agrees BracketHint a s = s ≡ number (record_number (hint (enrich a.message (tree a))))
 Agrees WithNames a s = Scoped a a.root (λ q. s ≡ list binding_row (map as_binding q.ctes))
 Agrees TableAliases a s = Scoped a a.root (λ q. s ≡ list binding_row (map as_binding q.table_aliases))
 Agrees ColumnAliases a s = Scoped a a.root (λ q. s ≡ list binding_row (map as_binding q.column_aliases))
 Agrees TableRefs a s = Scoped a a.root (λ q. Refers s (map reference q.table_refs))
 Agrees CursorContext a s = Contexts a (a.offset ∷ []) s
-Agrees EnclosingStatement a s = s ≡ number (statement_record (found (find_enclosing_statement (record_at a.table 0 0) (tree a) a.offset)))
+Agrees EnclosingStatement a s = s ≡ number (record_number (found (find_enclosing_statement (record_at a.table 0 0) (tree a) a.offset)))
 Agrees CursorRoot a s = Unit
 Agrees WithNamesAt a s = Scoped a (root_at a.table a.offset) (λ q. Begins s (map binding_row (map as_binding q.ctes)))
 Agrees TableAliasesAt a s = Scoped a (root_at a.table a.offset) (λ q. s ≡ list binding_row (map as_binding q.table_aliases))

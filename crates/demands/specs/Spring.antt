@@ -2,9 +2,8 @@
 -- a cursor is of the cursor's own query, and each WITH name is of it, or of a query around it from where it is seen: said of the rows that the four
 -- questions at the cursor say. Where the cursor stands in no statement, its query is the whole page. The words are in roots/specs/Nearest.antt.
 -- The theorem is `spring` in proofs/Spring.antt; the frame of that morning is computed below.
-use Rattle.std.specs.Prelude.{ℕ, ◌≡◌, refl, false, length}
+use Rattle.std.specs.Prelude.{ℕ, ◌≡◌, refl, false, length, Ok}
 use mathlib.Core.List.{List, [], ◌∷◌, ◌++◌, map, Memᴰ}
-use Rattle.lent.specs.declared.verdict.Verdict.TheVariants.{Admitted}
 use Rattle.records.specs.Kinds.{file, select_statement, select_clause, from_clause, where_clause, subquery_expression, table_identifier, table_alias, column_reference, other_token, bare_word, opening_round, closing_round}
 use Rattle.lent.specs.Numbers.{word}
 use Rattle.records.specs.Table.{kind_at, record_at, run, from}
@@ -31,7 +30,7 @@ use Rattle.contexts.specs.Trailing.{last_clause, past_clause, past_end, trailing
 use Rattle.contexts.specs.PathRules.{column_or, column, path_rules, ruled, else_ask as either, by_path}
 use Rattle.cursor.specs.CursorContext.{last_rule, given_or, context_at}
 use Rattle.contexts.specs.Context.{range_of, coded, context_row}
-use Rattle.cursor_root.specs.Root.{statement_or, root_of, root_at}
+use Rattle.cursor_root.specs.Root.{root_of, root_at}
 use Rattle.forest.specs.Above.{above_among}
 use Rattle.enclosing.specs.Enclosing.{queries, some_query, beyond, statement_among, last_root, roots_among, enclosing_roots}
 use Rattle.seen.specs.Seen.{own_seen}
@@ -134,7 +133,7 @@ abbrev bare : ℕ → ℕ → List ℕ
 bare s e = s ∷ e ∷ s ∷ e ∷ []
 
 -- the table is admitted, and the three names are one word
-that-morning : (verdict table (length source) 0 ≡ Admitted) × (text source 22 23 ≡ text source 46 47) × (text source 58 59 ≡ text source 46 47)
+that-morning : (verdict table (length source) 0 ≡ Ok tt) × (text source 22 23 ≡ text source 46 47) × (text source 58 59 ≡ text source 46 47)
 unfolding bytes_of verdict rules_from misplaced nearest bad_span last_end word text
 that-morning = (refl, refl, refl)
 
@@ -152,10 +151,10 @@ before = (refl, refl)
 -- now: the inner query's r, which is of raw, and nothing else
 now : ((matter TableAliasesAt that).said ≡ rows ((58 ∷ 59 ∷ 58 ∷ 59 ∷ 58 ∷ 59 ∷ []) ∷ []))
     × ((matter TableRefsAt that).said ≡ rows ((31 ∷ no_name ++ bare 54 57 ++ bare 58 59) ∷ []))
-unfolding matter collection collected node_gives own_tables table_reading hand_on list_alias aliased fresh last_named binding name_of unquoted is_name is_as says text upper bytes_of is_part direct kids level from run record_at word stretch_end extent path path_of or_else first_find enclosing_at deepest_or statement_or root_of root_at
+unfolding matter collection collected node_gives own_tables table_reading hand_on list_alias aliased fresh last_named binding name_of unquoted is_name is_as says text upper bytes_of is_part direct kids level from run record_at word stretch_end extent path path_of or_else first_find enclosing_at deepest_or root_of root_at
 now = (refl, refl)
 
 -- neither query has a WITH clause, and no WITH name is offered
 now-with : (matter WithNamesAt that).said ≡ rows []
-unfolding matter collection collected node_gives own_with bytes_of kids level from run record_at word stretch_end extent path path_of or_else first_find enclosing_at deepest_or statement_or root_of root_at above_among queries some_query beyond statement_among last_root roots_among enclosing_roots items items_before bound_by own_seen seen_of_all offered_in
+unfolding matter collection collected node_gives own_with bytes_of kids level from run record_at word stretch_end extent path path_of or_else first_find enclosing_at deepest_or root_of root_at above_among queries some_query beyond statement_among last_root roots_among enclosing_roots items items_before bound_by own_seen seen_of_all offered_in
 now-with = refl

@@ -32,6 +32,7 @@ pub fn path_from(table: &[u8], offset: usize, first: usize) -> Gathered
     let mut s = table;
     let mut base = 0;
     let mut i = first;
+    // Loops, not for: the walk goes down into a child and on in it, or to where the records of the child end.
     'descent: loop {
         g = enter(g, kind_at(s, 0), base);
         let m = count_of(s);

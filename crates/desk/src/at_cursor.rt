@@ -1,44 +1,42 @@
 // The questions at an offset, for C: the context, that of many offsets at once, the enclosing statement, the cursor's root and its four lists; and all of
 // it in one call.
 ghost use Rattle.std.specs.Prelude.{◌≡◌, [], ◌∷◌, length};
+ghost use Rattle.lent.specs.Lists.{reply};
 ghost use Rattle.table.specs.Rules.{rules, offset_rules, verdict};
 ghost use Rattle.names.specs.Bindings.{binding_row};
 ghost use Rattle.references.specs.References.{reference_row};
 ghost use Rattle.lists.specs.Scope.{table_aliases, column_aliases, table_refs};
-ghost use Rattle.statement.specs.Statement.{enclosing_at, statement_reply};
+ghost use Rattle.statement.specs.Statement.{enclosing_at};
 ghost use Rattle.contexts.specs.Context.{context_row};
 ghost use Rattle.cursor.specs.CursorContext.{context_at};
 ghost use Rattle.cursors.specs.Cursors.{contexts_at};
-ghost use Rattle.cursor_root.specs.Root.{root_at, root_reply};
-ghost use Rattle.replies.specs.Reply.{list_reply, statement_number, root_number, AnswersC};
+ghost use Rattle.cursor_root.specs.Root.{root_at};
+ghost use Rattle.replies.specs.Reply.{number_reply, record_reply, AnswersC};
 ghost use Rattle.offers.specs.WithNames.{with_names_at};
 ghost use Rattle.everything.specs.Everything.{buffers, Leaves, everything_reply};
 
-use context_entry::context_entry::list_context;
-use contexts::context::ContextReply;
-use cursor::cursor_context::cursor_context;
-use cursor_replies::{
-    column_aliases_reply_at, table_aliases_reply_at, table_refs_reply_at, with_names_reply_at,
-};
+use context_entry::context_entry::context_entry_at;
 use cursor_root::root::cursor_root;
 use cursors::cursors::cursor_contexts;
 use everything::everything::everything_at;
-use replies::reply::{list_reply, packed, root_number, statement_number};
+use offers::offers::{column_aliases_at, table_aliases_at, table_refs_at};
+use offers::with_names::with_names_at;
+use replies::reply::reply_number;
 use statement::statement::enclosing_statement;
 
 // The statement that encloses the offset. High half of an answer: its record, or 4294967295 for none.
 pub fn desk_enclosing_statement(table: &[u8], source: &[u8], offset: u32) -> u64
-    ensures { result ≡ statement_number (statement_reply (verdict table.now (length source.now) 0)
+    ensures { result ≡ record_reply (reply (verdict table.now (length source.now) 0)
         (enclosing_at table.now offset)) }
 {
-    statement_number(enclosing_statement(table, source, offset as usize))
+    reply_number(enclosing_statement(table, source, offset as usize))
 }
 
 // The cursor's root. High half of an answer: its record.
 pub fn desk_cursor_root(table: &[u8], source: &[u8], offset: u32) -> u64
-    ensures { result ≡ root_number (root_reply (verdict table.now (length source.now) 0) (root_at table.now offset)) }
+    ensures { result ≡ number_reply (reply (verdict table.now (length source.now) 0) (root_at table.now offset)) }
 {
-    root_number(cursor_root(table, source, offset as usize))
+    reply_number(cursor_root(table, source, offset as usize))
 }
 
 // The WITH names offered at the offset: those of the cursor's root, then those that it sees of the queries around it. High half of an answer: the
@@ -47,7 +45,7 @@ pub fn desk_with_names_at(table: &[u8], source: &[u8], offset: u32, out: &mut [u
     ensures { AnswersC (rules table.now (length source.now) 0) binding_row
         (with_names_at source.now table.now offset) out.old result out.new }
 {
-    with_names_reply_at(table, source, offset, out)
+    reply_number(with_names_at(table, source, offset as usize, out))
 }
 
 // The table aliases offered at the offset. High half of an answer: the entries written.
@@ -55,7 +53,7 @@ pub fn desk_table_aliases_at(table: &[u8], source: &[u8], offset: u32, out: &mut
     ensures { AnswersC (rules table.now (length source.now) 0) binding_row
         (table_aliases source.now table.now (root_at table.now offset)) out.old result out.new }
 {
-    table_aliases_reply_at(table, source, offset, out)
+    reply_number(table_aliases_at(table, source, offset as usize, out))
 }
 
 // The column aliases offered at the offset. High half of an answer: the entries written.
@@ -63,7 +61,7 @@ pub fn desk_column_aliases_at(table: &[u8], source: &[u8], offset: u32, out: &mu
     ensures { AnswersC (rules table.now (length source.now) 0) binding_row
         (column_aliases source.now table.now (root_at table.now offset)) out.old result out.new }
 {
-    column_aliases_reply_at(table, source, offset, out)
+    reply_number(column_aliases_at(table, source, offset as usize, out))
 }
 
 // The table references offered at the offset. High half of an answer: the entries written.
@@ -71,7 +69,7 @@ pub fn desk_table_refs_at(table: &[u8], source: &[u8], offset: u32, out: &mut [u
     ensures { AnswersC (rules table.now (length source.now) 0) reference_row
         (table_refs source.now table.now (root_at table.now offset)) out.old result out.new }
 {
-    table_refs_reply_at(table, source, offset, out)
+    reply_number(table_refs_at(table, source, offset as usize, out))
 }
 
 // What is being typed at the offset, as a list of one entry. High half of an answer: 1.
@@ -79,10 +77,7 @@ pub fn desk_cursor_context(table: &[u8], source: &[u8], offset: u32, out: &mut [
     ensures { AnswersC (rules table.now (length source.now) 0) context_row
         (context_at source.now table.now offset ∷ []) out.old result out.new }
 {
-    match cursor_context(table, source, offset as usize) {
-        ContextReply::Refused(k, d) => packed(k, d),
-        ContextReply::Context(c) => list_reply(list_context(c, out)),
-    }
+    reply_number(context_entry_at(table, source, offset as usize, out))
 }
 
 // What is being typed at each of the offsets, of four bytes each. High half of an answer: the entries written.
@@ -90,7 +85,7 @@ pub fn desk_cursor_contexts(table: &[u8], source: &[u8], offsets: &[u8], out: &m
     ensures { AnswersC (offset_rules table.now (length source.now) (length offsets.now)) context_row
         (contexts_at source.now table.now offsets.now) out.old result out.new }
 {
-    list_reply(cursor_contexts(table, source, offsets, out))
+    reply_number(cursor_contexts(table, source, offsets, out))
 }
 
 // Everything at the offset in one call: the context, the root and how many entries each list has as one entry, and the four lists, each in its own
@@ -105,13 +100,13 @@ pub fn desk_everything_at(
     columns: &mut [u8],
     refs: &mut [u8],
 ) -> u64
-    ensures value { result ≡ list_reply (everything_reply source.now table.now offset
+    ensures value { result ≡ number_reply (everything_reply source.now table.now offset
         (buffers out.old names.old aliases.old columns.old refs.old)) }
     ensures leaves { Leaves source.now table.now offset
         (buffers out.old names.old aliases.old columns.old refs.old)
         (buffers out.new names.new aliases.new columns.new refs.new) }
 {
-    list_reply(everything_at(
+    reply_number(everything_at(
         table,
         source,
         offset as usize,

@@ -1,15 +1,16 @@
 // The C symbols of the questions at an offset.
 ghost use Rattle.std.specs.Prelude.{◌≡◌, [], ◌∷◌, length};
+ghost use Rattle.lent.specs.Lists.{reply};
 ghost use Rattle.table.specs.Rules.{rules, offset_rules, verdict};
 ghost use Rattle.names.specs.Bindings.{binding_row};
 ghost use Rattle.references.specs.References.{reference_row};
 ghost use Rattle.lists.specs.Scope.{table_aliases, column_aliases, table_refs};
-ghost use Rattle.statement.specs.Statement.{enclosing_at, statement_reply};
+ghost use Rattle.statement.specs.Statement.{enclosing_at};
 ghost use Rattle.contexts.specs.Context.{context_row};
 ghost use Rattle.cursor.specs.CursorContext.{context_at};
 ghost use Rattle.cursors.specs.Cursors.{contexts_at};
-ghost use Rattle.cursor_root.specs.Root.{root_at, root_reply};
-ghost use Rattle.replies.specs.Reply.{list_reply, statement_number, root_number, AnswersC};
+ghost use Rattle.cursor_root.specs.Root.{root_at};
+ghost use Rattle.replies.specs.Reply.{number_reply, record_reply, AnswersC};
 ghost use Rattle.offers.specs.WithNames.{with_names_at};
 ghost use Rattle.everything.specs.Everything.{buffers, Leaves, everything_reply};
 
@@ -18,7 +19,7 @@ use desk::at_cursor;
 // The statement that encloses the offset. High half of an answer: its record, or 4294967295 for none.
 #[unsafe(no_mangle)]
 pub extern "C" fn desk_enclosing_statement(table: &[u8], source: &[u8], offset: u32) -> u64
-    ensures { result ≡ statement_number (statement_reply (verdict table.now (length source.now) 0)
+    ensures { result ≡ record_reply (reply (verdict table.now (length source.now) 0)
         (enclosing_at table.now offset)) }
 {
     at_cursor::desk_enclosing_statement(table, source, offset)
@@ -27,7 +28,7 @@ pub extern "C" fn desk_enclosing_statement(table: &[u8], source: &[u8], offset: 
 // The cursor's root. High half of an answer: its record.
 #[unsafe(no_mangle)]
 pub extern "C" fn desk_cursor_root(table: &[u8], source: &[u8], offset: u32) -> u64
-    ensures { result ≡ root_number (root_reply (verdict table.now (length source.now) 0) (root_at table.now offset)) }
+    ensures { result ≡ number_reply (reply (verdict table.now (length source.now) 0) (root_at table.now offset)) }
 {
     at_cursor::desk_cursor_root(table, source, offset)
 }
@@ -130,7 +131,7 @@ pub extern "C" fn desk_everything_at(
     columns: &mut [u8],
     refs: &mut [u8],
 ) -> u64
-    ensures value { result ≡ list_reply (everything_reply source.now table.now offset
+    ensures value { result ≡ number_reply (everything_reply source.now table.now offset
         (buffers out.old names.old aliases.old columns.old refs.old)) }
     ensures leaves { Leaves source.now table.now offset
         (buffers out.old names.old aliases.old columns.old refs.old)

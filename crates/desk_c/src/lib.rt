@@ -1,18 +1,20 @@
-// The C symbols of the desk: each calls the function of its name in desk, and keeps the same promise.
+// The C symbols of the desk: each calls the function of its name in desk, and keeps the same promise. Twins for C: the archive
+// is a static library, on which no crate can stand, and Rattle programs ask desk.
 #![tactic(auto)]
 
 pub mod at_cursor;
 
 ghost use Rattle.std.specs.Prelude.{◌≡◌, length};
+ghost use Rattle.lent.specs.Lists.{reply};
 ghost use Rattle.table.specs.Rules.{rules, root_rules, number_rules, verdict};
 ghost use Rattle.forest.specs.Above.{above};
 ghost use Rattle.above.specs.Above.{above_row};
 ghost use Rattle.class_list.specs.Classes.{class_row as class_row, classes_of};
-ghost use Rattle.brackets.specs.Brackets.{opener_row as opener_row, stack_left, openers_left, hint_of, hinted};
+ghost use Rattle.brackets.specs.Brackets.{opener_row as opener_row, stack_left, openers_left, hint_of};
 ghost use Rattle.names.specs.Bindings.{binding_row};
 ghost use Rattle.references.specs.References.{reference_row};
 ghost use Rattle.lists.specs.Scope.{with_names, table_aliases, column_aliases, table_refs};
-ghost use Rattle.replies.specs.Reply.{verdict_reply, hint_reply, AnswersC};
+ghost use Rattle.replies.specs.Reply.{verdict_reply, record_reply, AnswersC};
 
 // The layout of records and entries, by its number: a host asks for it by its name, so that one of another layout does not link.
 #[unsafe(no_mangle)]
@@ -51,7 +53,7 @@ pub extern "C" fn desk_openers_left(table: &[u8], source: &[u8], out: &mut [u8])
 // The opener that a message speaks of. High half of an answer: its record, or 4294967295 for none.
 #[unsafe(no_mangle)]
 pub extern "C" fn desk_bracket_hint(table: &[u8], source: &[u8], message: &[u8]) -> u64
-    ensures { result ≡ hint_reply (hinted (verdict table.now (length source.now) (length message.now))
+    ensures { result ≡ record_reply (reply (verdict table.now (length source.now) (length message.now))
         (hint_of message.now (stack_left table.now))) }
 {
     desk::desk_bracket_hint(table, source, message)

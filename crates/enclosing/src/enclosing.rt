@@ -1,6 +1,5 @@
 // The roots around a root, and the WITH names that it sees of each (document 02, §4).
 ghost use Rattle.std.specs.Prelude.{◌≡◌, ◌+◌, ◌≤◌, ◌<◌};
-ghost use Rattle.lent.specs.Numbers.{word_limit};
 ghost use Rattle.records.specs.Table.{count, depth_at};
 ghost use Rattle.conditions.specs.Conditions.{most_records, most_depth};
 ghost use Rattle.lent.specs.Lists.{farthest, Written};
@@ -16,27 +15,40 @@ use records::record::{kind_at, parent_at};
 use seen::seen::collect_seen;
 use statement::statement::is_statement;
 
-// What is known of the last enclosing root after one more node above the subqueries: 1 for record 0, while there is no statement; else the
-// nearest statement's number plus two.
-fn outer_root(outer: usize, kind: usize, i: usize) -> usize
-    requires { i < word_limit }
-    ensures { result ≡ outer_root outer kind i }
-{
-    if 1 < outer {
-        return outer;
+// What is known of the last enclosing root: nothing while nothing stands above the outermost subquery, then record 0 while there is no statement, else the
+// nearest statement.
+#[derive(Clone, Copy, Drop)]
+enum Outer {
+    Nothing,
+    First,
+    Statement(usize),
+}
+
+impl Outer {
+    // What is known after one more node above the subqueries, record i.
+    fn after(self, kind: usize, i: usize) -> Outer
+        ensures { result ≡ outer_root self kind i }
+    {
+        match self {
+            Outer::Statement(_) => self,
+            _ if is_statement(kind) => Outer::Statement(i),
+            _ => Outer::First,
+        }
     }
-    if is_statement(kind) { i + 2 } else { 1 }
+
+    // The last enclosing root, if there is one.
+    fn root(self) -> Option<usize>
+        ensures { result ≡ outer_number self }
+    {
+        match self {
+            Outer::Nothing => None,
+            Outer::First => Some(0),
+            Outer::Statement(i) => Some(i),
+        }
+    }
 }
 
-// The record that it stands for.
-fn outer_number(outer: usize) -> usize
-    ensures { result ≡ outer_number outer }
-{
-    if outer < 2 { 0 } else { outer - 2 }
-}
-
-// Writes the WITH names of the roots around record n, nearest first: a climb from parent to parent. `outer` is what is known of the last enclosing
-// root, 0 while nothing stands above the outermost subquery.
+// Writes the WITH names of the roots around record n, nearest first: a climb from parent to parent.
 pub fn collect_around(table: &[u8], n: usize, source: &[u8], out: &mut [u8], at: usize) -> usize
     requires { ((n < count table.now) × (count table.now ≤ most_records) × (depth_at table.now n ≤ most_depth) × (at + around_bytes < farthest))
         × Climbs table.now }
@@ -44,21 +56,22 @@ pub fn collect_around(table: &[u8], n: usize, source: &[u8], out: &mut [u8], at:
         (seen_of_all source.now table.now n (roots_among table.now (above table.now n)))
         out.old at out.new result × (result ≤ at + around_bytes) }
 {
-    let mut outer = 0;
+    let mut outer = Outer::Nothing;
     let mut next = at;
     let mut i = n;
+    // While, not for: a climb goes from a node to the one above it, and ends at the first record.
     while 0 < i {
         i = parent_at(table, i);
         let kind = kind_at(table, i);
         if kind == SUBQUERY_EXPRESSION {
             next = collect_seen(table, n, i, source, out, next);
-            outer = 0;
+            outer = Outer::Nothing;
         } else {
-            outer = outer_root(outer, kind, i);
+            outer = outer.after(kind, i);
         }
     }
-    if outer == 0 {
-        return next;
+    match outer.root() {
+        Some(root) => collect_seen(table, n, root, source, out, next),
+        None => next,
     }
-    collect_seen(table, n, outer_number(outer), source, out, next)
 }

@@ -8,10 +8,9 @@ use mathlib.Core.List.{List, [], ◌∷◌, ◌++◌}
 use lib.ListN.{length, drop}
 use lib.Dec.{ltb}
 use borrow.Author.Tests.{ltb-false}
-use Rattle.lent.specs.declared.verdict.Verdict.{Verdict}
-use Rattle.lent.specs.declared.verdict.Verdict.TheVariants.{Admitted, Refused}
-use Rattle.lent.specs.declared.list.Listed.TheVariants.{Entries, Refused as Denied}
-use Rattle.lent.specs.Verdicts.{Rule, first}
+use Rattle.std.specs.Prelude.{Ok, Err}
+use Rattle.lent.specs.declared.refusal.Refusal.{Refusal}
+use Rattle.lent.specs.Verdicts.{Rule, first, Verdict}
 use Rattle.lent.specs.Lists.{row_bytes, list_bytes, room_rule, reply, buffer, lent, put}
 use Rattle.lent.proofs.Verdicts.{then-refused, then-admitted, unbroken}
 use Rattle.lent.proofs.Writes.{length-wide, written_one, written-whole}
@@ -38,17 +37,17 @@ unfolding lent buffer
 roomy row es out e = rw e
 
 -- of five rules that admit together none is broken
-unbroken-five : (r s t u v : Rule) → Admitted ≡ first (r ∷ s ∷ t ∷ u ∷ v ∷ [])
+unbroken-five : (r s t u v : Rule) → Ok tt ≡ first (r ∷ s ∷ t ∷ u ∷ v ∷ [])
     → (r.broken ≡ false) × (s.broken ≡ false) × (t.broken ≡ false) × (u.broken ≡ false) × (v.broken ≡ false)
 unbroken-five r s t u v e =
     let one : r.broken ≡ false = unbroken r (s ∷ t ∷ u ∷ v ∷ []) e in
-    let e1 : Admitted ≡ first (s ∷ t ∷ u ∷ v ∷ []) = rw one at e in
+    let e1 : Ok tt ≡ first (s ∷ t ∷ u ∷ v ∷ []) = rw one at e in
     let two : s.broken ≡ false = unbroken s (t ∷ u ∷ v ∷ []) e1 in
-    let e2 : Admitted ≡ first (t ∷ u ∷ v ∷ []) = rw two at e1 in
+    let e2 : Ok tt ≡ first (t ∷ u ∷ v ∷ []) = rw two at e1 in
     let three : t.broken ≡ false = unbroken t (u ∷ v ∷ []) e2 in
-    let e3 : Admitted ≡ first (u ∷ v ∷ []) = rw three at e2 in
+    let e3 : Ok tt ≡ first (u ∷ v ∷ []) = rw three at e2 in
     let four : u.broken ≡ false = unbroken u (v ∷ []) e3 in
-    let e4 : Admitted ≡ first (v ∷ []) = rw four at e3 in
+    let e4 : Ok tt ≡ first (v ∷ []) = rw four at e3 in
     (one, two, three, four, unbroken v [] e4)
 
 module _ (src t : List ℕ) (o : ℕ) (b : Buffers) where
@@ -72,24 +71,24 @@ module _ (src t : List ℕ) (o : ℕ) (b : Buffers) where
       )
 
   -- refused: nothing is touched
-  refused : {k d : ℕ} → Refused k d ≡ everything_verdict src t o b → Everything src t o b (Denied k d) b
+  refused : {r : Refusal} → Err r ≡ everything_verdict src t o b → Everything src t o b (Err r) b
   unfolding reply buffer
   refused e = (rw (← e), record { entry = rw (← e); names = rw (← e); aliases = rw (← e); columns = rw (← e); refs = rw (← e) })
 
-  pub everything-refused : {k d : ℕ} → Refused k d ≡ first (rules t (length src) 0) → Everything src t o b (Denied k d) b
+  pub everything-refused : {r : Refusal} → Err r ≡ first (rules t (length src) 0) → Everything src t o b (Err r) b
   everything-refused e = refused (unfold everything_verdict in then-refused (rules t (length src) 0) (room_rules src t o b) e)
 
-  module _ (ok : Admitted ≡ first (rules t (length src) 0)) {c : Counts} {v : Verdict} (q : c ≡ all)
+  module _ (ok : Ok tt ≡ first (rules t (length src) 0)) {c : Counts} {v : Verdict} (q : c ≡ all)
       (w : v ≡ first (rooms_for c (length b.entry) (length b.names) (length b.aliases) (length b.columns) (length b.refs))) where
     by-rooms : v ≡ everything_verdict src t o b
     unfolding everything_verdict
     by-rooms = w ∙ rw (q, ← rooms-are) (sym (then-admitted (rules t (length src) 0) (room_rules src t o b) ok))
 
-    pub everything-short : {k d : ℕ} → v ≡ Refused k d → Everything src t o b (Denied k d) b
+    pub everything-short : {r : Refusal} → v ≡ Err r → Everything src t o b (Err r) b
     everything-short e = refused (sym e ∙ by-rooms)
 
-    module _ (e : v ≡ Admitted) where
-      rooms : Admitted ≡ first (room_rules src t o b)
+    module _ (e : v ≡ Ok tt) where
+      rooms : Ok tt ≡ first (room_rules src t o b)
       rooms = sym e ∙ w ∙ rw (q, ← rooms-are) refl
 
       pub everything-given : {out : List ℕ} {names aliases columns refs : List ℕ} → out ≡ put b.entry 0 (counted_row (context_at src t o) (root_at t o) c)
@@ -97,7 +96,7 @@ module _ (src t : List ℕ) (o : ℕ) (b : Buffers) where
           → aliases ≡ lent [] binding_row (table_aliases src t (root_at t o)) b.aliases
           → columns ≡ lent [] binding_row (column_aliases src t (root_at t o)) b.columns
           → refs ≡ lent [] reference_row (table_refs src t (root_at t o)) b.refs
-          → Everything src t o b (Entries 1) (buffers out names aliases columns refs)
+          → Everything src t o b (Ok 1) (buffers out names aliases columns refs)
       unfolding reply buffer room_rules everything_row
       everything-given p n a k r =
           let v = sym e ∙ by-rooms in

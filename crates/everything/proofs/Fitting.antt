@@ -5,7 +5,7 @@ use Prim.Native.Nat.{ℕ, ◌<◌}
 use mathlib.Core.Path.{◌≡◌, refl}
 use mathlib.Core.List.{List, [], ◌∷◌}
 use native.Mathlib.Omega.{arith}
-use Rattle.lent.specs.declared.verdict.Verdict.TheVariants.{Admitted}
+use Rattle.std.specs.Prelude.{Ok}
 use Rattle.lent.specs.Numbers.{word_limit}
 use Rattle.lent.specs.Fit32.{Fit32}
 use Rattle.lent.proofs.Fit32.{fit_append}
@@ -23,7 +23,7 @@ five-fit : (a b c d e : ℕ) → a < word_limit → b < word_limit → c < word_
 unfolding Fit32
 five-fit a b c d e p q r s t = (p, (q, (r, (s, (t, tt)))))
 
-pub everything-fits : (src t : List ℕ) (n o : ℕ) → Admitted ≡ verdict t n 0 → Fit32 (everything_row src t o)
+pub everything-fits : (src t : List ℕ) (n o : ℕ) → Ok tt ≡ verdict t n 0 → Fit32 (everything_row src t o)
 unfolding everything_row
 everything-fits src t n o a =
     let i = root_at t o in

@@ -1,10 +1,9 @@
 -- Everything at a cursor in one call: the context, the root and the four lists, each as its own question gives it.
 -- src is the source's bytes, t the table's, o the offset.
 -- Definitions only.
-use Rattle.std.specs.Prelude.{ℕ, ◌≡◌, List, [], ◌∷◌, ◌++◌, length, drop}
-use Rattle.lent.specs.declared.verdict.Verdict.{Verdict}
-use Rattle.lent.specs.declared.list.Listed.{Listed}
-use Rattle.lent.specs.Verdicts.{Rule, first}
+use Rattle.lent.specs.declared.refusal.Refusal.{Refusal}
+use Rattle.std.specs.Prelude.{ℕ, ◌≡◌, List, [], ◌∷◌, ◌++◌, length, drop, Result}
+use Rattle.lent.specs.Verdicts.{Rule, first, Verdict}
 use Rattle.lent.specs.Lists.{list_bytes, room_rule, reply, buffer}
 use Rattle.table.specs.Rules.{rules}
 use Rattle.names.specs.Bindings.{binding_row}
@@ -65,9 +64,9 @@ pub record Leaves (src t : List ℕ) (o : ℕ) (before after : Buffers) : Type 0
   pub refs : after.refs ≡ filled (everything_verdict src t o before) reference_row (table_refs src t (root_at t o)) before.refs
 
 -- its reply: one entry, or a refusal
-abbrev pub everything_reply : List ℕ → List ℕ → ℕ → Buffers → Listed
+abbrev pub everything_reply : List ℕ → List ℕ → ℕ → Buffers → Result ℕ Refusal
 everything_reply src t o before = reply (everything_verdict src t o before) 1
 
 -- the call: its reply, and its buffers before and afterwards
-abbrev pub Everything : List ℕ → List ℕ → ℕ → Buffers → Listed → Buffers → Type 0
+abbrev pub Everything : List ℕ → List ℕ → ℕ → Buffers → Result ℕ Refusal → Buffers → Type 0
 Everything src t o before replied after = (replied ≡ everything_reply src t o before) × Leaves src t o before after

@@ -13,8 +13,8 @@ use native.Mathlib.Numerals.{add-one}
 use borrow.Author.Tests.{lt-ltb, le-ltb, eq-eqb, ne_eqb}
 use lib.Dec.{ltb}
 use lib.ListN.{length}
-use Rattle.lent.specs.declared.verdict.Verdict.{Verdict}
-use Rattle.lent.specs.declared.verdict.Verdict.TheVariants.{Admitted}
+use Rattle.std.specs.Prelude.{Ok}
+use Rattle.lent.specs.Verdicts.{Verdict}
 use Rattle.records.specs.Table.{count, depth_at, parent_at}
 use Rattle.forest.specs.Forest.{stretch_end}
 use Rattle.conditions.specs.Conditions.{nearest}
@@ -169,5 +169,5 @@ pub above-below : (t : List ℕ) (n m : ℕ) → n ≤ m → AllBelow m (above t
 above-below t n m h = among_below t n m n h
 
 -- of what the check says
-pub admitted-climbs : (t : List ℕ) (n : ℕ) {v : Verdict} → v ≡ verdict t n 0 → v ≡ Admitted → Climbs t
+pub admitted-climbs : (t : List ℕ) (n : ℕ) {v : Verdict} → v ≡ verdict t n 0 → v ≡ Ok tt → Climbs t
 admitted-climbs t n e q = climbs t n (admitted-tidy t n 0 (sym e ∙ q))

@@ -13,8 +13,8 @@ use native.Mathlib.Omega.{arith}
 use native.Mathlib.Nat.{zero-add}
 use lib.Dec.{ltb}
 use lib.ListN.{length}
+use Rattle.std.specs.Prelude.{Ok}
 use Rattle.records.specs.declared.record.Rec.{Rec}
-use Rattle.lent.specs.declared.verdict.Verdict.TheVariants.{Admitted}
 use Rattle.records.specs.Kinds.{is_node, last_node}
 use Rattle.records.specs.Table.{count, kind_at, depth_at, record_at, run, from, records, part}
 use Rattle.conditions.specs.Conditions.{most_records}
@@ -113,7 +113,7 @@ pub fitting-inherited : Inherited Fitting
 unfolding Limited SpansFit
 fitting-inherited = record { behind-token = λ w. (w.0.1, w.1); below = λ w. (w.0.1, w.1.1); behind-node = λ w. (w.0.2, w.1.2) }
 
-pub admitted-limited : (t : List ℕ) (n m : ℕ) → Admitted ≡ verdict t n m → (i : ℕ) → Limited (inside t i)
+pub admitted-limited : (t : List ℕ) (n m : ℕ) → Ok tt ≡ verdict t n m → (i : ℕ) → Limited (inside t i)
 admitted-limited t n m a = inside-limited (admitted-tidy t n m (sym a))
 
 -- ---- the tokens that a reading reaches

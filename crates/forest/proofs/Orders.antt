@@ -8,9 +8,9 @@ use mathlib.Core.List.{List}
 use mathlib.Core.Logic.{⊎_elim}
 use native.Mathlib.Omega.{arith}
 use lib.ListN.{drop}
+use Rattle.std.specs.Prelude.{Ok}
+use Rattle.lent.specs.Verdicts.{Verdict}
 use Rattle.records.specs.declared.record.Rec.{Rec}
-use Rattle.lent.specs.declared.verdict.Verdict.{Verdict}
-use Rattle.lent.specs.declared.verdict.Verdict.TheVariants.{Admitted}
 use Rattle.records.specs.Kinds.{last_node}
 use Rattle.records.specs.Table.{record_bytes, count, kind_at, start_at, record_at}
 use Rattle.table.specs.Rules.{verdict}
@@ -27,7 +27,7 @@ tidy-ordered {t} y =
     token : (x : ℕ) → x < count t → last_node < kind_at t x → Token (kind_at t x)
     token x h k = ⊎_elim (λ a. absurd (omega arith)) (λ a. a) (y.kinds x h)
 
-pub admitted-ordered : (t : List ℕ) (n : ℕ) {v : Verdict} → v ≡ verdict t n 0 → v ≡ Admitted → Ordered t
+pub admitted-ordered : (t : List ℕ) (n : ℕ) {v : Verdict} → v ≡ verdict t n 0 → v ≡ Ok tt → Ordered t
 admitted-ordered t n e q = tidy-ordered (admitted-tidy t n 0 (sym e ∙ q))
 
 pub ordered-rest : {t p : List ℕ} (i : ℕ) → Ordered t → p ≡ drop (record_bytes * i) t → Ordered p

@@ -15,9 +15,9 @@ use native.Mathlib.Nat.{zero-add}
 use borrow.Author.Tests.{eq-eqb, ne_eqb, eqb-true}
 use lib.ListN.{length, take, drop}
 use lib.Dec.{eqb}
+use Rattle.std.specs.Prelude.{Ok}
+use Rattle.lent.specs.Verdicts.{Verdict}
 use Rattle.records.specs.declared.record.Rec.{Rec}
-use Rattle.lent.specs.declared.verdict.Verdict.{Verdict}
-use Rattle.lent.specs.declared.verdict.Verdict.TheVariants.{Admitted}
 use Rattle.records.specs.Kinds.{is_token, other_token, arrow}
 use Rattle.records.specs.Table.{record_bytes, count, kind_at, depth_at, start_at, end_at, parent_at, record_at, run, from, records}
 use Rattle.forest.specs.Forest.{Forest, nil, token, node, level, kids, extent}
@@ -38,7 +38,7 @@ is-token k =
     (λ h. ⊎_elim (λ g. inr (λ e. omega (arith, e.1))) (λ g. inl (h, g)) (lt-or-le arrow k))
     (lt-or-le k other_token)
 
-module _ (t : List ℕ) (n m : ℕ) (v : verdict t n m ≡ Admitted) where
+module _ (t : List ℕ) (n m : ℕ) (v : verdict t n m ≡ Ok tt) where
   none : (k d : ℕ) → Broken t n m k d → ⊥
   none = (admitted-exactly t n m).0 v
 
@@ -312,5 +312,5 @@ module _ (t : List ℕ) (n : ℕ) (w : Tidy t n) where
   carried-tree = whole-tree ∙ (unfold from in carried (count t - 0) 0 (omega arith))
 
 -- an admitted table has a record, and few
-pub admitted-sized : (t : List ℕ) (n : ℕ) {v : Verdict} → v ≡ verdict t n 0 → v ≡ Admitted → (0 < count t) × (count t < 4294967296)
+pub admitted-sized : (t : List ℕ) (n : ℕ) {v : Verdict} → v ≡ verdict t n 0 → v ≡ Ok tt → (0 < count t) × (count t < 4294967296)
 admitted-sized t n e q = let y = admitted-tidy t n 0 (sym e ∙ q) in (y.some, omega (arith, y.few))

@@ -2,6 +2,7 @@ pub mod Above
 pub mod Descent
 pub mod Forest
 pub mod Limits
+pub mod Parts
 pub mod Places
 pub mod Sense
 pub mod Tokens

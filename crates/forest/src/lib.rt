@@ -2,4 +2,5 @@
 #![tactic(auto)]
 
 pub mod nodes;
+pub mod part;
 pub mod stretch;

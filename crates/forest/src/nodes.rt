@@ -13,20 +13,17 @@ pub fn node_from(t: &[u8], j: usize) -> usize
 {
     let m = count_of(t);
     let k = depth_at(t, 0) + 1;
-    let mut i = j;
-    while i < m {
+    for i in j..m {
         let d = depth_at(t, i);
         if k < d {
-            i += 1;
-        } else {
-            if d < k {
-                return m;
-            }
-            if kind_at(t, i) <= LAST_NODE {
-                return i;
-            }
-            i += 1;
+            continue;
+        }
+        if d < k {
+            return m;
+        }
+        if kind_at(t, i) <= LAST_NODE {
+            return i;
         }
     }
-    i
+    m
 }

@@ -65,14 +65,12 @@ pub fn level_from(t: &[u8], k: usize, j: usize) -> usize
     ensures { Reached t.now k j result }
 {
     let m = t.len() / RECORD_BYTES;
-    let mut i = j;
-    while i < m {
+    for i in j..m {
         if depth_at(t, i) <= k {
             return i;
         }
-        i += 1;
     }
-    i
+    m
 }
 
 // The same, four records at a turn, where the step may be a far one.
@@ -82,6 +80,7 @@ pub fn far_from(t: &[u8], k: usize, j: usize) -> usize
 {
     let m = t.len() / RECORD_BYTES;
     let mut i = j;
+    // While, not for: one record at a turn takes the four lists of a scope over their bar of instructions.
     while i + 4 <= m {
         if depth_at(t, i) <= k {
             return i;

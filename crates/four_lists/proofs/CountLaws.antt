@@ -7,8 +7,10 @@ use mathlib.Core.Bool.{Bool, true, false, cond}
 use mathlib.Core.List.{List, []}
 use lib.ListN.{length, length-map}
 use lib.Dec.{ltb}
-use Rattle.lent.specs.declared.verdict.Verdict.TheVariants.{Admitted, Refused}
-use Rattle.lent.specs.declared.list.Listed.{Listed}
+use Rattle.std.specs.Prelude.{Ok, Result}
+use Rattle.lent.specs.declared.refusal.Condition.TheVariants.{NoRoom}
+use Rattle.lent.specs.declared.refusal.Refusal.{Refusal}
+use Rattle.lent.specs.Verdicts.{refused}
 use Rattle.lent.specs.Lists.{list_bytes, reply, listed}
 use Rattle.names.specs.Bindings.{binding_row}
 use Rattle.references.specs.References.{reference_row}
@@ -19,11 +21,11 @@ use Rattle.lists.proofs.ListLaws.{alias-rows, column-rows, reference-rows}
 use Rattle.enclosing.specs.Offered.{offered_in}
 use Rattle.four_lists.specs.inner.Counts.{entries_in, counts_in}
 
-pub counted : {E : Type 0} (row : E → List ℕ) (es : List E) (out : List ℕ) {r : Listed} {n : ℕ} → n ≡ entries_in r → r ≡ listed [] row es out → n ≡ length es
+pub counted : {E : Type 0} (row : E → List ℕ) (es : List E) (out : List ℕ) {r : Result ℕ Refusal} {n : ℕ} → n ≡ entries_in r → r ≡ listed [] row es out → n ≡ length es
 unfolding listed reply entries_in
 counted row es out e q = e ∙ rw q (go (ltb (length out) (length (list_bytes row es))))
   where
-    go : (b : Bool) → entries_in (reply (cond b (Refused 7 (length es)) Admitted) (length es)) ≡ length es
+    go : (b : Bool) → entries_in (reply (cond b (refused NoRoom (length es)) (Ok tt)) (length es)) ≡ length es
     go true = refl
     go false = refl
 

@@ -12,18 +12,18 @@ ghost use Rattle.enclosing.specs.Offered.{offered_in};
 ghost use Rattle.four_lists.specs.inner.Counts.{entries_in, counts_in};
 
 use clauses::clauses::ScopeList;
-use lent::list::Listed;
+use lent::refusal::Refusal;
 use lists::lists::list_in;
 use offered::offered::list_offered;
 use rooms::rooms::Counts;
 
 // How many entries a list has by its reply: those that were written, or those that had no room.
-fn entries_in(l: Listed) -> u32
+fn entries_in(l: Result<u32, Refusal>) -> u32
     ensures { result ≡ entries_in l }
 {
     match l {
-        Listed::Entries(n) => n,
-        Listed::Refused(_, n) => n,
+        Ok(n) => n,
+        Err(r) => r.detail,
     }
 }
 
@@ -74,8 +74,9 @@ pub fn put_lists(
         × (columns.new ≡ lent [] binding_row (column_aliases source.now table.now root) columns.old)
         × (refs.new ≡ lent [] reference_row (table_refs source.now table.now root) refs.old) }
 {
-    list_offered(table, root, source, names);
-    list_in(ScopeList::TableAliases, table, source, root, aliases);
-    list_in(ScopeList::ColumnAliases, table, source, root, columns);
-    list_in(ScopeList::TableRefs, table, source, root, refs);
+    // each leaves its buffer as it was where it has no room
+    let _ = list_offered(table, root, source, names);
+    let _ = list_in(ScopeList::TableAliases, table, source, root, aliases);
+    let _ = list_in(ScopeList::ColumnAliases, table, source, root, columns);
+    let _ = list_in(ScopeList::TableRefs, table, source, root, refs);
 }

@@ -14,9 +14,10 @@ use borrow.Author.Tests.{ne_eqb, lt-ltb, le-ltb, ltb-true, ltb-false}
 use lib.Dec.{eqb, ltb, leb}
 use lib.ListN.{length, take, drop, length-drop}
 use lib.Seq.{length-take-le, take_all, take-take, take-nil}
-use Rattle.lent.specs.declared.verdict.Verdict.{Verdict}
-use Rattle.lent.specs.declared.verdict.Verdict.TheVariants.{Admitted, Refused}
-use Rattle.lent.specs.Verdicts.{first}
+use Rattle.std.specs.Prelude.{Ok, Err}
+use Rattle.lent.specs.declared.refusal.Condition.TheVariants.{BadLine}
+use Rattle.lent.specs.declared.refusal.Refusal.{Refusal}
+use Rattle.lent.specs.Verdicts.{first, Verdict, refused}
 use Rattle.lent.proofs.Cases.{lt-or-le, both}
 use Rattle.lines.specs.Lines.{Line, lf, lines, all_digits, is_hex, is_source, is_numbers, most_bytes, most_lines, offset_digits, record_digits, last_line, record_rules, frame_rules}
 use Rattle.print.specs.Printed.{refusal_line}
@@ -27,7 +28,7 @@ use Rattle.frame.specs.Enough.{input_room, Enough}
 use Rattle.report.proofs.Answers.{never_both}
 use Rattle.lines.proofs.Reading.{first-line, first-faulty, lines-behind, lines-some, drop-two, source-unended, numbers-unended, source-short, numbers-long}
 
-clash : {k d : ℕ} → Admitted ≡ Refused k d → ⊥
+clash : {r : Refusal} → ◌≡◌ {A = Verdict} (Ok tt) (Err r) → ⊥
 clash q = never_both q refl
 
 untrue : {b : Bool} → b ≡ true → b ≡ false → ⊥
@@ -138,10 +139,10 @@ good bs = is_numbers record_digits (line_to bs (line_span bs))
 
 -- the first rule of a text's records, and then the others
 records-turn : (i : ℕ) (bs : List ℕ) → 0 < length bs
-    → first (record_rules i (lines bs)) ≡ cond (ltb last_line i || not (good bs)) (Refused 9 i) (first (record_rules (suc i) (lines (drop (line_span bs + 1) bs))))
+    → first (record_rules i (lines bs)) ≡ cond (ltb last_line i || not (good bs)) (refused BadLine i) (first (record_rules (suc i) (lines (drop (line_span bs + 1) bs))))
 records-turn i bs h = rw (first-line bs h) (unfold record_rules in refl)
 
-too_many : (i : ℕ) (bs : List ℕ) → 0 < length bs → last_line < i → first (record_rules i (lines bs)) ≡ Refused 9 i
+too_many : (i : ℕ) (bs : List ℕ) → 0 < length bs → last_line < i → first (record_rules i (lines bs)) ≡ refused BadLine i
 too_many i bs h g = records-turn i bs h ∙ rw (lt-ltb last_line i g)
 
 -- none may follow
@@ -189,15 +190,15 @@ records-same (suc m) i k bs e h =
     records-step i k bs (omega arith) (λ q. records-same m (suc i) (k - (line_span bs + 1)) (drop (line_span bs + 1) bs) (omega arith) (omega arith))
 
 -- lines of records that break no rule are short
-few-step : (i : ℕ) (bs : List ℕ) → 0 < length bs → Admitted ≡ first (record_rules i (lines bs))
-    → (i ≤ last_line) × (length bs ≡ record_line + length (drop (line_span bs + 1) bs)) × (Admitted ≡ first (record_rules (suc i) (lines (drop (line_span bs + 1) bs))))
+few-step : (i : ℕ) (bs : List ℕ) → 0 < length bs → Ok tt ≡ first (record_rules i (lines bs))
+    → (i ≤ last_line) × (length bs ≡ record_line + length (drop (line_span bs + 1) bs)) × (Ok tt ≡ first (record_rules (suc i) (lines (drop (line_span bs + 1) bs))))
 few-step i bs h a = go (ltb last_line i) refl (good bs) refl
   where
-    turned : Admitted ≡ cond (ltb last_line i || not (good bs)) (Refused 9 i) (first (record_rules (suc i) (lines (drop (line_span bs + 1) bs))))
+    turned : Ok tt ≡ cond (ltb last_line i || not (good bs)) (refused BadLine i) (first (record_rules (suc i) (lines (drop (line_span bs + 1) bs))))
     turned = a ∙ records-turn i bs h
 
     go : (t : Bool) → ltb last_line i ≡ t → (g : Bool) → good bs ≡ g
-        → (i ≤ last_line) × (length bs ≡ record_line + length (drop (line_span bs + 1) bs)) × (Admitted ≡ first (record_rules (suc i) (lines (drop (line_span bs + 1) bs))))
+        → (i ≤ last_line) × (length bs ≡ record_line + length (drop (line_span bs + 1) bs)) × (Ok tt ≡ first (record_rules (suc i) (lines (drop (line_span bs + 1) bs))))
     go true e g q = absurd (clash (rw e at turned))
     go false e false q = absurd (clash (rw (e, q) at turned))
     go false e true q =
@@ -206,7 +207,7 @@ few-step i bs h a = go (ltb last_line i) refl (good bs) refl
         let w : line_span bs < length bs = ltb-true (line_span bs) (length bs) (numbers-ended record_digits (line_to bs (line_span bs)) q) in
         (ltb-false last_line i e, omega (arith, length-drop (line_span bs + 1) bs), rw (e, q) at turned)
 
-records-few : (m i : ℕ) (bs : List ℕ) → i + m ≡ 1027 → Admitted ≡ first (record_rules i (lines bs)) → length bs ≤ record_line * m
+records-few : (m i : ℕ) (bs : List ℕ) → i + m ≡ 1027 → Ok tt ≡ first (record_rules i (lines bs)) → length bs ≤ record_line * m
 records-few zero i bs e a =
     ⊎_elim
     (λ (h : 0 < length bs). absurd (omega (arith, (few-step i bs h a).0)))
@@ -223,13 +224,13 @@ records-few (suc m) i bs e a =
 -- ---- the parts of a frame, from the last on
 
 abbrev after_offset : List ℕ → Verdict
-after_offset bs = cond (eqb (length (lines bs)) 0) (Refused 9 3) (first (record_rules 3 (lines bs)))
+after_offset bs = cond (eqb (length (lines bs)) 0) (refused BadLine 3) (first (record_rules 3 (lines bs)))
 
 abbrev after_source : List ℕ → Verdict
-after_source bs = cond (not (is_numbers offset_digits (line_to bs (line_span bs)))) (Refused 9 2) (after_offset (drop (line_span bs + 1) bs))
+after_source bs = cond (not (is_numbers offset_digits (line_to bs (line_span bs)))) (refused BadLine 2) (after_offset (drop (line_span bs + 1) bs))
 
 abbrev whole : List ℕ → Verdict
-whole bs = cond (not (is_source (line_to bs (line_span bs)))) (Refused 9 1) (after_source (drop (line_span bs + 1) bs))
+whole bs = cond (not (is_source (line_to bs (line_span bs)))) (refused BadLine 1) (after_source (drop (line_span bs + 1) bs))
 
 framed : (bs : List ℕ) → first (frame_rules (lines bs)) ≡ whole bs
 framed bs =
@@ -263,7 +264,7 @@ module _ (form : Line → Bool) (most : ℕ) (short : (l : Line) → form l ≡ 
           rw (same, q, span-within k bs (omega arith), drop-take (line_span bs + 1) k bs) (r (k - (line_span bs + 1)) (drop (line_span bs + 1) bs) (omega arith))
       go false q = rw (same, q)
 
-  turn-few : (n : ℕ) (bs : List ℕ) → (Admitted ≡ refusal → ⊥) → ((bs' : List ℕ) → Admitted ≡ then bs' → length bs' ≤ n) → Admitted ≡ turn bs → length bs ≤ most + 1 + n
+  turn-few : (n : ℕ) (bs : List ℕ) → (Ok tt ≡ refusal → ⊥) → ((bs' : List ℕ) → Ok tt ≡ then bs' → length bs' ≤ n) → Ok tt ≡ turn bs → length bs ≤ most + 1 + n
   turn-few n bs never r a = go (form (line_to bs (line_span bs))) refl
     where
       go : (t : Bool) → form (line_to bs (line_span bs)) ≡ t → length bs ≤ most + 1 + n
@@ -272,24 +273,24 @@ module _ (form : Line → Bool) (most : ℕ) (short : (l : Line) → form l ≡ 
 
 after-source-same : (k : ℕ) (bs : List ℕ) → (offset_digits + 1 + record_lines) < k → after_source (take k bs) ≡ after_source bs
 after-source-same k bs h =
-    turn-same (is_numbers offset_digits) offset_digits (numbers-short offset_digits) (numbers-ended offset_digits) (Refused 9 2) after_offset k bs (omega arith)
+    turn-same (is_numbers offset_digits) offset_digits (numbers-short offset_digits) (numbers-ended offset_digits) (refused BadLine 2) after_offset k bs (omega arith)
     (λ k' bs' g. after-offset-same k' bs' (omega arith))
 
 whole_same : (bs : List ℕ) → whole (take input_room bs) ≡ whole bs
 whole_same bs =
-    turn-same is_source 8192 source-short source-ended (Refused 9 1) after_source input_room bs (omega arith) (λ k' bs' g. after-source-same k' bs' (omega arith))
+    turn-same is_source 8192 source-short source-ended (refused BadLine 1) after_source input_room bs (omega arith) (λ k' bs' g. after-source-same k' bs' (omega arith))
 
-after-offset-few : (bs : List ℕ) → Admitted ≡ after_offset bs → length bs ≤ record_lines
+after-offset-few : (bs : List ℕ) → Ok tt ≡ after_offset bs → length bs ≤ record_lines
 after-offset-few bs a = go (eqb (length (lines bs)) 0) refl
   where
     go : (t : Bool) → eqb (length (lines bs)) 0 ≡ t → length bs ≤ record_lines
     go true e = absurd (clash (rw e at a))
     go false e = records-few 1024 3 bs refl (rw e at a)
 
-whole-few : (bs : List ℕ) → Admitted ≡ whole bs → length bs ≤ (2 * most_bytes + 1 + (offset_digits + 1 + record_lines))
+whole-few : (bs : List ℕ) → Ok tt ≡ whole bs → length bs ≤ (2 * most_bytes + 1 + (offset_digits + 1 + record_lines))
 whole-few bs a =
-    turn-few is_source 8192 source-short source-ended (Refused 9 1) after_source (offset_digits + 1 + record_lines) bs clash
-    (λ bs' q. turn-few (is_numbers offset_digits) offset_digits (numbers-short offset_digits) (numbers-ended offset_digits) (Refused 9 2) after_offset record_lines bs' clash after-offset-few q)
+    turn-few is_source 8192 source-short source-ended (refused BadLine 1) after_source (offset_digits + 1 + record_lines) bs clash
+    (λ bs' q. turn-few (is_numbers offset_digits) offset_digits (numbers-short offset_digits) (numbers-ended offset_digits) (refused BadLine 2) after_offset record_lines bs' clash after-offset-few q)
     a
 
 -- THE THEOREM
@@ -300,9 +301,9 @@ enough input =
     (λ (h : length input ≤ input_room). rw (take_all input_room input h))
     (lt-or-le input_room (length input))
   where
-    refused : (bs : List ℕ) {k d : ℕ} → whole bs ≡ Refused k d → glanced bs ≡ refusal_line k d
-    refused bs e = (unfold replied_to unless_refused in rw (framed bs, e))
+    told : (bs : List ℕ) {r : Refusal} → whole bs ≡ Err r → glanced bs ≡ refusal_line r
+    told bs e = (unfold replied_to unless_refused in rw (framed bs, e))
 
     go : input_room < length input → (v : Verdict) → whole input ≡ v → glanced (take input_room input) ≡ glanced input
-    go h Admitted e = absurd (omega (arith, whole-few input (sym e)))
-    go h (Refused k d) e = refused (take input_room input) (whole_same input ∙ e) ∙ sym (refused input e)
+    go h (Ok tt) e = absurd (omega (arith, whole-few input (sym e)))
+    go h (Err r) e = told (take input_room input) (whole_same input ∙ e) ∙ sym (told input e)

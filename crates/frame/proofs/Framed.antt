@@ -4,25 +4,26 @@ use Prim.Native.Nat.{ℕ, ◌*◌, ◌≤◌}
 use mathlib.Core.Path.{◌≡◌}
 use mathlib.Core.List.{List}
 use lib.ListN.{take}
+use Rattle.lent.specs.declared.refusal.Refusal.{Refusal}
 use Rattle.records.specs.Table.{record_bytes}
 use Rattle.lines.specs.Lines.{Line, most_bytes, most_lines}
 use Rattle.print.specs.Printed.{refusal_line}
 use Rattle.report.specs.Output.{unless_refused, replied}
 use Rattle.frame.specs.Glance.{replied_to}
 use Rattle.lines.specs.inner.Reading.{ReadFrame}
+use Rattle.std.specs.Prelude.{Result, Ok, Err}
 use Rattle.lines.specs.declared.input.Frame.{Frame}
-use Rattle.lines.specs.declared.input.Frame.TheVariants.{Unreadable, Given}
 
 -- what is printed for a frame, as its reading found it
-module _ (ls : List Line) (s t : List ℕ) {f : Frame} (h : ReadFrame ls s t f) where
-  pub frame-unreadable : {i : ℕ} → f ≡ Unreadable i → replied_to ls ≡ refusal_line 9 i
+module _ (ls : List Line) (s t : List ℕ) {r : Result Frame Refusal} (h : ReadFrame ls s t r) where
+  pub frame-unreadable : {b : Refusal} → r ≡ Err b → replied_to ls ≡ refusal_line b
   unfolding replied_to unless_refused ReadFrame
   frame-unreadable e = rw (← (rw e at h))
 
-  pub frame-given : {m o n : ℕ} → f ≡ Given m o n
-      → (m ≤ most_bytes) × (n ≤ most_lines) × (replied_to ls ≡ replied (take m s) (take (record_bytes * n) t) o)
+  pub frame-given : {f : Frame} → r ≡ Ok f
+      → (f.bytes ≤ most_bytes) × (f.records ≤ most_lines) × (replied_to ls ≡ replied (take f.bytes s) (take (record_bytes * f.records) t) f.offset)
   unfolding replied_to unless_refused ReadFrame
-  frame-given {m} {o} {n} e = done (rw e at h)
+  frame-given {f} e = done (rw e at h)
     where
-      done : ReadFrame ls s t (Given m o n) → (m ≤ most_bytes) × (n ≤ most_lines) × (replied_to ls ≡ replied (take m s) (take (record_bytes * n) t) o)
+      done : ReadFrame ls s t (Ok f) → (f.bytes ≤ most_bytes) × (f.records ≤ most_lines) × (replied_to ls ≡ replied (take f.bytes s) (take (record_bytes * f.records) t) f.offset)
       done q = (q.1, q.4, rw (← q.0, q.2, q.5, q.3))

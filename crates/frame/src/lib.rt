@@ -6,9 +6,7 @@ pub mod stream;
 ghost use Rattle.std.specs.Prelude.{◌≡◌, ◌++◌, ◌≤◌, length, drop};
 ghost use Rattle.frame.specs.Glance.{glanced};
 
-use lines::input::{
-    BAD_LINE, Frame, MOST_BYTES, MOST_LINES, OFFSET_DIGITS, RECORD_DIGITS, TABLE_ROOM,
-};
+use lines::input::{MOST_BYTES, MOST_LINES, OFFSET_DIGITS, RECORD_DIGITS, TABLE_ROOM};
 use print::printed::{LINE_ROOM, put_refusal};
 use reader::read::read_frame;
 use records::record::RECORD_BYTES;
@@ -33,10 +31,10 @@ pub fn glance(input: &[u8], out: &mut [u8; TEXT_ROOM]) -> usize
     let mut source = [0u8; MOST_BYTES];
     let mut table = [0u8; TABLE_ROOM];
     match read_frame(input, &mut source, &mut table) {
-        Frame::Unreadable(line) => put_refusal(out, BAD_LINE, line),
-        Frame::Given(bytes, offset, records) => {
-            let end = RECORD_BYTES * records;
-            put_reply(out, &table[..end], &source[..bytes], offset)
+        Err(refusal) => put_refusal(out, refusal),
+        Ok(frame) => {
+            let end = RECORD_BYTES * frame.records;
+            put_reply(out, &table[..end], &source[..frame.bytes], frame.offset)
         }
     }
 }

@@ -12,6 +12,7 @@ pub fn read_full<R: Read>(input: &mut R, buf: &mut [u8]) -> io::Result<usize>
     ensures whole { IfOk result (λ n. n < length buf.new → IsAtEnd (R.remaining input.new)) }
 {
     let mut done = 0;
+    // While, not for: how many bytes a read gives is the input's to say.
     while done < buf.len() {
         let n = input.read(&mut buf[done..])?;
         if n == 0 {

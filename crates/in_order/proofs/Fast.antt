@@ -13,7 +13,7 @@ use borrow.Author.Tests.{le-ltb, le-leb, lt-leb, eq-eqb, ne_eqb, ltb-false, leb-
 use lib.Dec.{eqb, ltb, leb}
 use lib.ListN.{get_or, set, replicate, length-set}
 use lib.Seq.{get_or-set_same, get_or-set_other}
-use Rattle.lent.specs.declared.verdict.Verdict.TheVariants.{Admitted}
+use Rattle.std.specs.Prelude.{Ok}
 use Rattle.records.specs.Kinds.{is_node, is_token, last_node, other_token}
 use Rattle.records.specs.Table.{count, kind_at, depth_at, start_at, end_at, parent_at, record_at}
 use Rattle.conditions.specs.Conditions.{most_depth, misplaced, too_deep, nearest, parent_of, wrong_parent, bad_span, last_end}
@@ -23,10 +23,6 @@ use Rattle.record_conditions.specs.inner.Step.{depths, deepest_next, known_at, o
 use Rattle.in_order.specs.inner.Fast.{first_fits, span_fits, Kept, InOrder}
 use Rattle.lent.proofs.Cases.{lt-or-le, eq-or-not, both}
 use Rattle.record_conditions.proofs.Steps.{place_at}
-
--- what is false says nothing
-pub never : {A : Type 0} → false ≡ true → A
-never e = absurd (let z : ◌≡◌ {A = ℕ} 0 1 = cc in omega arith)
 
 -- a node is no token
 node-token : (k : ℕ) → k ≤ last_node → is_token k ≡ false
@@ -220,7 +216,7 @@ module _ (t : List ℕ) where
             )
         go false e = refl
 
-    all : (n c k : ℕ) → last_end t i ≤ n → k + c ≡ i → first (rules_from t n k c) ≡ Admitted
+    all : (n c k : ℕ) → last_end t i ≤ n → k + c ≡ i → first (rules_from t n k c) ≡ Ok tt
     unfolding rules_from
     all n zero k l z = refl
     all n (suc c) k l z =
@@ -228,7 +224,7 @@ module _ (t : List ℕ) where
         rw (y.listed, y.placed, y.shallow, y.parented, span n k l (omega arith)) (all n c (suc k) l (omega arith))
 
   pub order-end : {i limit parent last n : ℕ} {above : List ℕ} → InOrder t i limit parent last above → count t ≤ i → i ≤ count t → last ≤ n
-      → Admitted ≡ first (rules_from t n 0 (count t))
+      → Ok tt ≡ first (rules_from t n 0 (count t))
   order-end {i} {limit} {parent} {last} {n} w a b l =
       let z : i ≡ count t = omega arith in
       sym (rw (← z) (all i w.kept n i 0 (omega (arith, w.ends)) (omega arith)))

@@ -11,6 +11,7 @@ use native.Mathlib.Nat.{zero-add, add-zero}
 use borrow.Author.Tests.{ne_eqb, eqb-true}
 use lib.Dec.{eqb, ltb}
 use lib.ListN.{drop}
+use Rattle.std.specs.Prelude.{Option}
 use Rattle.records.specs.declared.record.Rec.{Rec}
 use Rattle.records.specs.Kinds.{last_node, is_node, with_expression_item, column_list}
 use Rattle.records.specs.Table.{record_bytes, count, kind_at, depth_at, record_at, from, records}
@@ -24,7 +25,6 @@ use Rattle.lent.proofs.Writes.{written_none, written_then}
 use Rattle.forest.proofs.Walking.{rest-inside}
 use Rattle.forest.proofs.Rooted.{Rooted, inside-rooted}
 use Rattle.names.specs.declared.names.NameBinding.{NameBinding}
-use Rattle.names.specs.declared.names.Bound.{Bound}
 use Rattle.names.specs.Names.{with_item}
 use Rattle.names.specs.Bindings.{entry, binding_row}
 use Rattle.forest.specs.Above.{stands_below}
@@ -214,7 +214,7 @@ module _ (src t : List ℕ) (n : ℕ) where
                 stays x false = refl
 
             -- any other is written
-            pub pick-item : {m' next' : ℕ} {out' p : List ℕ} {b : Bound} → m' ≡ depth_at s i → stands_below t (c + i) n ≡ false → p ≡ drop (record_bytes * (c + i)) t
+            pub pick-item : {m' next' : ℕ} {out' p : List ℕ} {b : Option NameBinding} → m' ≡ depth_at s i → stands_below t (c + i) n ≡ false → p ≡ drop (record_bytes * (c + i)) t
                 → b ≡ with_item src (record_at p (c + i) 0) (kids (records (c + i) p)) → Written binding_row (entry b) out next out' next'
                 → Picking c s out₀ at k m' (i + 1) out' next'
             unfolding pick

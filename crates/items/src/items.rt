@@ -9,6 +9,7 @@ ghost use Rattle.names.specs.Bindings.{binding_row};
 ghost use Rattle.items.specs.Items.{items, items_before, bound_by};
 ghost use Rattle.items.specs.inner.Room.{clause_bytes};
 
+use forest::part::Part;
 use forest::stretch::{reach_below, rest_from, stretch_end};
 use names::bindings::put_cte;
 use records::kinds::{COLUMN_LIST, WITH_EXPRESSION_ITEM};
@@ -40,29 +41,28 @@ pub fn collect_items(
     let k = depth_at(s, 0) + 1;
     let mut reach = k;
     let mut next = at;
-    let mut i = 1;
-    while i < m {
+    for i in 1..m {
         let d = depth_at(s, i);
         if d < k {
             return next;
         }
         if reach < d {
-            i += 1;
-        } else {
-            let kind = kind_at(s, i);
-            if kind == WITH_EXPRESSION_ITEM {
-                if is_below(table, clause + i, n) {
-                    return next;
-                }
-                let item = rest_from(table, clause + i);
-                next = put_cte(item, clause + i, source, out, next);
-                reach = d;
-                i += 1;
-            } else {
-                reach = reach_below(d, kind == COLUMN_LIST);
-                i += 1;
-            }
+            continue;
         }
+        let kind = kind_at(s, i);
+        if kind == WITH_EXPRESSION_ITEM {
+            if is_below(table, clause + i, n) {
+                return next;
+            }
+            let item = Part {
+                bytes: rest_from(table, clause + i),
+                base: clause + i,
+            };
+            next = put_cte(&item, source, out, next);
+            reach = d;
+            continue;
+        }
+        reach = reach_below(d, kind == COLUMN_LIST);
     }
     next
 }

@@ -5,8 +5,6 @@ ghost use Rattle.text.specs.Text.{upper, says};
 ghost use Rattle.keywords.specs.Keywords.{is_keyword};
 ghost use Rattle.keywords.specs.inner.KeywordTable.{shortest, longest, cells, Lent, cell_start, Folds, letters, keywords_with};
 
-use lent::number::wide;
-
 // The words end to end, those of two bytes first: a word is looked for only among words of its length.
 pub const KEYWORDS: [u8; 1347] = *b"\
     ASBYIDIFINISONORTO\
@@ -64,12 +62,12 @@ pub const STARTS: Starts = *b"\
     \x13\x05\x13\x05\x13\x05\x13\x05\x1f\x05\x1f\x05\x1f\x05\x1f\x05\x2b\x05\x2b\x05\x2b\x05\x2b\x05\x2b\x05\x37\x05\
     \x37\x05\x37\x05\x37\x05\x37\x05\x37\x05\x37\x05\x37\x05\x43\x05\x43\x05\x43\x05\x43\x05\x43\x05\x43\x05";
 
-// Start i of the rows.
+// Start i of the rows. By `from_le_bytes` the look at a word takes a third as many instructions more, and the class of a token misses its bar.
 fn cell_start(starts: &Starts, i: usize) -> usize
     requires { i < cells }
     ensures { result ≡ cell_start starts.now i }
 {
-    wide(starts[2 * i]) + 256 * wide(starts[2 * i + 1])
+    usize::from(starts[2 * i]) + 256 * usize::from(starts[2 * i + 1])
 }
 
 // Clears the bit by which the cases of a letter differ: beside a letter, and only there, the result stands in for the byte's upper case.
@@ -89,6 +87,7 @@ fn spells(word: &[u8], text: &[u8]) -> bool
         return false;
     }
     let mut i = 2;
+    // While, not for: an iterator over the two slices costs the class of a token its bar of instructions.
     while i < text.len() {
         if cleared(text[i]) != word[i] {
             return false;
@@ -103,13 +102,14 @@ fn group<'a>(words: &'a [u8], starts: &Starts, n: usize, first: u8) -> &'a [u8]
     requires { Lent words.now starts.now × (shortest ≤ n) × (n ≤ longest) × (65 ≤ first) × (first ≤ 90) }
     ensures { result.now ≡ flatten (keywords_with n first) }
 {
-    let cell = ROW * (n - SHORTEST) + wide(first - b'A');
+    let cell = ROW * (n - SHORTEST) + usize::from(first - b'A');
     let from = cell_start(starts, cell);
     let end = cell_start(starts, cell + 1);
     &words[from..end]
 }
 
-// A text is among the keywords of its length and first letter, which lie end to end in `group`.
+// A text is among the keywords of its length and first letter, which lie end to end in `group`. By `split_at_checked` and `for` the look at a word takes half
+// as many instructions more, and the class of a token misses its bar.
 fn among(group: &[u8], text: &[u8]) -> bool
     requires { (shortest ≤ length text.now) × (group.now ≡ flatten (keywords_with (length text.now) (upper (get_or text.now 0 0)))) }
     ensures { result ≡ is_keyword text.now }

@@ -15,14 +15,16 @@ use native.Mathlib.Omega.{arith}
 use native.Mathlib.Nat.{add-zero, zero-add, add_assoc, suc-mul, mul-div_cancel}
 use native.Mathlib.Numerals.{add-one}
 use lib.ListN.{length, take, drop, set, get_or, length-append, length-map}
+use borrow.Rule.Slice.PartMut.{put_mid}
+use Rattle.std.proofs.lemmas.List.{drop-drop}
 use lib.Seq.{sets, sets-eq, length-sets, take-suc, take_all, take-append_seam, length-take-le}
 use borrow.Author.Tests.{lt-ltb, le-ltb}
-use Rattle.lent.specs.declared.verdict.Verdict.TheVariants.{Admitted, Refused}
-use Rattle.lent.specs.declared.list.Listed.{Listed}
-use Rattle.lent.specs.declared.list.Listed.TheVariants.{Entries, Refused as Denied}
-use Rattle.lent.specs.Verdicts.{Rule, first}
+use Rattle.std.specs.Prelude.{Ok, Err, Result}
+use Rattle.lent.specs.declared.refusal.Condition.TheVariants.{NoRoom}
+use Rattle.lent.specs.declared.refusal.Refusal.{Refusal}
+use Rattle.lent.specs.Verdicts.{Rule, first, refused}
 use Rattle.lent.specs.Numbers.{number_bytes, le4}
-use Rattle.lent.specs.Lists.{row_bytes, list_bytes, room_rule, list_verdict, reply, buffer, listed, lent, put, fill, Written}
+use Rattle.lent.specs.Lists.{row_bytes, list_bytes, room_rule, list_verdict, reply, buffer, listed, lent, put, fill, Written, plain}
 use Rattle.lent.proofs.Verdicts.{then-refused, then-admitted}
 
 pub length-row : (vs : List ℕ) → length (row_bytes vs) ≡ number_bytes * length vs
@@ -35,6 +37,10 @@ sets-append [] ys l i = rw (add-zero i)
 sets-append (x ∷ xs) ys l i =
     let e : i + suc (length xs) ≡ suc i + length xs = omega arith in
     rw e (sets-append xs ys (set l i x) (suc i))
+
+-- a part of a slice that is overwritten with xs
+pub sets-part : (xs out : List ℕ) (at k : ℕ) {ys : List ℕ} → ys ≡ xs → k ≡ length xs → at + length xs ≤ length out → put_mid at k out ys ≡ sets out at xs
+sets-part xs out at k e q h = rw (e, q, drop-drop (length xs) at out) (sym (sets-eq xs out at h ∙ append_assoc (take at out) xs _))
 
 module _ {E : Type 0} (row : E → List ℕ) where
   list-append : (xs ys : List E) → list_bytes row (xs ++ ys) ≡ list_bytes row xs ++ list_bytes row ys
@@ -93,23 +99,23 @@ module _ {E : Type 0} (row : E → List ℕ) where
       ∙ rw (zero-add (length (list_bytes row es)))
 
   -- ---- a question for a list
-  pub list-refused : (rs : List Rule) (es : List E) (out : List ℕ) {k d : ℕ} → Refused k d ≡ first rs
-      → (Denied k d ≡ listed rs row es out) × (out ≡ lent rs row es out)
+  pub list-refused : (rs : List Rule) (es : List E) (out : List ℕ) {r : Refusal} → Err r ≡ first rs
+      → (Err r ≡ listed rs row es out) × (out ≡ lent rs row es out)
   unfolding listed lent reply buffer
   list-refused rs es out e =
       let v = then-refused rs (room_rule row es out ∷ []) e in
       (rw (← v), rw (← v))
 
-  listed-room : (rs : List Rule) (es : List E) (out : List ℕ) → Admitted ≡ first rs → length (list_bytes row es) ≤ length out
-      → Admitted ≡ list_verdict rs row es out
+  listed-room : (rs : List Rule) (es : List E) (out : List ℕ) → Ok tt ≡ first rs → length (list_bytes row es) ≤ length out
+      → Ok tt ≡ list_verdict rs row es out
   listed-room rs es out e h = sym (then-admitted rs (room_rule row es out ∷ []) e ∙ rw (le-ltb (length out) (length (list_bytes row es)) h))
 
-  listed-short : (rs : List Rule) (es : List E) (out : List ℕ) → Admitted ≡ first rs → length out < length (list_bytes row es)
-      → Refused 7 (length es) ≡ list_verdict rs row es out
+  listed-short : (rs : List Rule) (es : List E) (out : List ℕ) → Ok tt ≡ first rs → length out < length (list_bytes row es)
+      → refused NoRoom (length es) ≡ list_verdict rs row es out
   listed-short rs es out e h = sym (then-admitted rs (room_rule row es out ∷ []) e ∙ rw (lt-ltb (length out) (length (list_bytes row es)) h))
 
   -- where its rules admit a question, its list is that of the question with no rules
-  pub list-admitted : (rs : List Rule) (es : List E) (out : List ℕ) {r : Listed} {out' : List ℕ} → Admitted ≡ first rs
+  pub list-admitted : (rs : List Rule) (es : List E) (out : List ℕ) {r : Result ℕ Refusal} {out' : List ℕ} → Ok tt ≡ first rs
       → (r ≡ listed [] row es out) × (out' ≡ lent [] row es out) → (r ≡ listed rs row es out) × (out' ≡ lent rs row es out)
   unfolding listed lent
   list-admitted rs es out e q = rw (then-admitted rs (room_rule row es out ∷ []) e) q
@@ -119,15 +125,15 @@ module _ {E : Type 0} (row : E → List ℕ) where
     entries-of : (m : ℕ) → m ≡ length (list_bytes row es) → m / w ≡ length es
     entries-of m q = rw (q, wide) (mul-div_cancel (length es) p)
 
-    module _ (rs : List Rule) (out : List ℕ) (ok : Admitted ≡ first rs) where
+    module _ (rs : List Rule) (out : List ℕ) (ok : Ok tt ≡ first rs) where
       pub sized-filled : {out' : List ℕ} {m : ℕ} → Written row es out 0 out' m → m ≤ length out
-          → (Entries (m / w) ≡ listed rs row es out) × (out' ≡ lent rs row es out)
+          → (Ok (m / w) ≡ listed rs row es out) × (out' ≡ lent rs row es out)
       unfolding listed lent reply buffer
       sized-filled {out'} {m} c h =
           let v = listed-room rs es out ok (omega (arith, c.next)) in
           (rw (← v, entries-of m (omega (arith, c.next))), rw (← v) (written-whole c (omega (arith, c.next))))
 
-      pub sized-short : {m : ℕ} → m ≡ length (list_bytes row es) → length out < m → (Denied 7 (m / w) ≡ listed rs row es out) × (out ≡ lent rs row es out)
+      pub sized-short : {m : ℕ} → m ≡ length (list_bytes row es) → length out < m → (refused NoRoom (m / w) ≡ listed rs row es out) × (out ≡ lent rs row es out)
       unfolding listed lent reply buffer
       sized-short {m} c h =
           let v = listed-short rs es out ok (omega arith) in
@@ -135,7 +141,7 @@ module _ {E : Type 0} (row : E → List ℕ) where
 
       -- a function writes to bytes that are kept aside, which hold all of it, and copies them
       pub sized-copied : {kept kept' out' : List ℕ} {m : ℕ} → Written row es kept 0 kept' m → m ≤ length kept → m ≤ length out → out' ≡ take m kept' ++ drop m out
-          → (Entries (m / w) ≡ listed rs row es out) × (out' ≡ lent rs row es out)
+          → (Ok (m / w) ≡ listed rs row es out) × (out' ≡ lent rs row es out)
       unfolding listed lent reply buffer
       sized-copied {kept} {kept'} {out'} {m} c h g q =
           let z : m ≡ length (list_bytes row es) = omega (arith, c.next) in
@@ -149,17 +155,14 @@ module _ {E : Type 0} (row : E → List ℕ) where
     length-wide [] = (unfold list_bytes in omega arith)
     length-wide (e ∷ es) = length-cons e es ∙ rw (wide e, length-wide es, suc-mul (length es) w) (omega arith)
 
-    module _ (p : 0 < w) (rs : List Rule) (es : List E) (out : List ℕ) (ok : Admitted ≡ first rs) where
-      pub list-filled : {out' : List ℕ} {m : ℕ} → Written row es out 0 out' m → m ≤ length out → (Entries (m / w) ≡ listed rs row es out) × (out' ≡ lent rs row es out)
+    module _ (p : 0 < w) (rs : List Rule) (es : List E) (out : List ℕ) (ok : Ok tt ≡ first rs) where
+      pub list-filled : {out' : List ℕ} {m : ℕ} → Written row es out 0 out' m → m ≤ length out → (Ok (m / w) ≡ listed rs row es out) × (out' ≡ lent rs row es out)
       list-filled c h = sized-filled w es (length-wide es) p rs out ok c h
 
-      pub list-short : {m : ℕ} → m ≡ length (list_bytes row es) → length out < m → (Denied 7 (m / w) ≡ listed rs row es out) × (out ≡ lent rs row es out)
+      pub list-short : {m : ℕ} → m ≡ length (list_bytes row es) → length out < m → (refused NoRoom (m / w) ≡ listed rs row es out) × (out ≡ lent rs row es out)
       list-short c h = sized-short w es (length-wide es) p rs out ok c h
 
   -- ---- entries that are rows of numbers already: the same bytes, writes and answers
-  abbrev plain : List ℕ → List ℕ
-  plain r = r
-
   pub bytes-map : (es : List E) → list_bytes plain (map row es) ≡ list_bytes row es
   unfolding list_bytes
   bytes-map [] = refl

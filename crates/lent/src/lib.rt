@@ -3,4 +3,4 @@
 
 pub mod list;
 pub mod number;
-pub mod verdict;
+pub mod refusal;

@@ -1,21 +1,13 @@
 // A list of entries in a lent buffer: an entry is some 32-bit little-endian numbers.
-ghost use Rattle.std.specs.Prelude.{◌≡◌, ◌++◌, ◌+◌, ◌*◌, ◌≤◌, ◌<◌, length, take, drop};
-ghost use Rattle.lent.specs.Numbers.{number_bytes};
-ghost use Rattle.lent.specs.Lists.{farthest, put};
+ghost use Rattle.std.specs.Prelude.{◌≡◌, ℕ, List, [], ◌++◌, ◌+◌, ◌*◌, ◌/◌, ◌≤◌, ◌<◌, length, take, drop};
+ghost use Rattle.lent.specs.Numbers.{number_bytes, word_limit};
+ghost use Rattle.lent.specs.Lists.{Answers, Walks, farthest, list_bytes, plain, put};
 
 use crate::number::{NUMBER_BYTES, put_number};
-
-// The reply to a question for a list.
-#[derive(Clone, Copy)]
-pub enum Listed {
-    // how many entries were written
-    Entries(u32),
-    // the refusal's number and its detail
-    Refused(u32, u32),
-}
+use crate::refusal::{Condition, Refusal, refused};
 
 // How many bytes of a list are kept aside while it is walked: a list that fits is walked once, and one that does not a second time.
-pub const KEPT_BYTES: usize = 3072;
+const KEPT_BYTES: usize = 3072;
 
 // Writes an entry's numbers from byte `at` on, if out has room for all of them there, and returns where the next entry goes.
 pub fn put_entry(out: &mut [u8], at: usize, entry: &[usize]) -> usize
@@ -28,10 +20,8 @@ pub fn put_entry(out: &mut [u8], at: usize, entry: &[usize]) -> usize
     if out.len() < next {
         return next;
     }
-    let mut i = 0;
-    while i < n {
-        put_number(out, at + NUMBER_BYTES * i, entry[i]);
-        i += 1;
+    for (i, v) in entry.iter().enumerate() {
+        put_number(out, at + NUMBER_BYTES * i, *v);
     }
     next
 }
@@ -41,9 +31,32 @@ pub fn copy_front(out: &mut [u8], from: &[u8], n: usize)
     requires { (n ≤ length out.old) × (n ≤ length from.now) }
     ensures { out.new ≡ take n from.now ++ drop n out.old }
 {
-    let mut i = 0;
-    while i < n {
-        out[i] = from[i];
-        i += 1;
+    out[..n].copy_from_slice(&from[..n]);
+}
+
+// The answer of a question for a list whose entries are this wide, by a walk that writes them to a buffer and returns how many bytes they take: walked
+// into bytes that are kept aside, and copied from there where they held all of it; a longer list is walked again where it has room.
+pub fn list_walked<W: Fn(&mut [u8]) -> usize>(
+    walk: W,
+    width: usize,
+    out: &mut [u8],
+) -> Result<u32, Refusal>
+    requires callable { W.IsAlwaysCallable walk }
+    requires wide { 0 < width }
+    requires counted { (p : _) (n : _) (q : _) → W.post walk p n q → n / width < word_limit }
+    ensures { (es : List (List ℕ)) → Walks W.Fn walk es → length (list_bytes plain es) ≡ length es * width
+        → Answers [] plain es out.old result out.new }
+{
+    let mut kept = [0u8; KEPT_BYTES];
+    let size = walk(&mut kept);
+    let entries = (size / width) as u32;
+    if out.len() < size {
+        return refused(Condition::NoRoom, entries);
     }
+    if size <= KEPT_BYTES {
+        copy_front(out, &kept, size);
+        return Ok(entries);
+    }
+    walk(out);
+    Ok(entries)
 }

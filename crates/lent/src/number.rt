@@ -9,23 +9,12 @@ pub const NUMBER_BYTES: usize = 4;
 // A number of four bytes is below this.
 pub const WORD_LIMIT: usize = 4294967296;
 
-// A byte as a number.
-pub fn wide(x: u8) -> usize
-    ensures { (result ≡ x) × (result < 256) }
-{
-    x as usize
-}
-
 // The little-endian number in the four bytes from `at` on.
 pub fn word_at(t: &[u8], at: usize) -> usize
     requires { at + 4 ≤ length t.now }
     ensures { (result ≡ word t.now at) × (result < word_limit) }
 {
-    let a = wide(t[at]);
-    let b = wide(t[at + 1]);
-    let c = wide(t[at + 2]);
-    let d = wide(t[at + 3]);
-    a + b * 256 + c * 65536 + d * 16777216
+    u32::from_le_bytes([t[at], t[at + 1], t[at + 2], t[at + 3]]) as usize
 }
 
 // Writes the four little-endian bytes of v.
@@ -33,8 +22,5 @@ pub fn put_number(out: &mut [u8], at: usize, v: usize)
     requires { at + number_bytes ≤ length out.old }
     ensures { out.new ≡ sets out.old at (le4 v) }
 {
-    out[at] = (v % 256) as u8;
-    out[at + 1] = (v / 256 % 256) as u8;
-    out[at + 2] = (v / 65536 % 256) as u8;
-    out[at + 3] = (v / 16777216 % 256) as u8;
+    out[at..at + NUMBER_BYTES].copy_from_slice(&v.to_le_bytes()[..NUMBER_BYTES]);
 }

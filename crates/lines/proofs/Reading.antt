@@ -1,6 +1,6 @@
 -- Lines, digits and numbers, as the code reads them.
---     digits-next, ..     all bytes are digits, byte by byte
---     span-next, ..       the end of the first line, byte by byte
+--     digits-all          all bytes are digits
+--     span-place          the end of the first line
 --     first-line          the lines of a text are its first line and those behind it
 --     number-next, ..     a number, digit by digit
 --     pairs_next, ..      the source, two digits at a time
@@ -14,13 +14,15 @@ use mathlib.Core.List.{List, [], ◌∷◌}
 use native.Mathlib.Numerals.{add-one}
 use native.Mathlib.Omega.{arith}
 use native.Mathlib.Nat.{pow-suc, pow-le-pow_right, zero-add}
-use borrow.Author.Tests.{eq-eqb, ne_eqb, ltb-true, ltb-false, lt-ltb, le-ltb, le-leb, lt-leb, leb-true, eqb-true}
+use borrow.Author.Tests.{ne_eqb, ltb-true, ltb-false, lt-ltb, le-ltb, le-leb, lt-leb, leb-true, eqb-true, eqb-false}
 use lib.Dec.{eqb, ltb, leb}
 use lib.ListN.{length, get_or, take, drop, set, length-drop, drop_of_length-le}
-use lib.Seq.{sets, sets-eq, drop-cons, take_all, take_at}
-use Rattle.lent.specs.declared.verdict.Verdict.TheVariants.{Admitted, Refused}
+use Rattle.lent.specs.declared.refusal.Condition.TheVariants.{BadLine}
+use Rattle.lent.specs.declared.refusal.Refusal.{Refusal}
+use Rattle.std.specs.List.{list_all, position_or_len}
+use lib.Seq.{sets, sets-eq, drop-cons, take_at}
 use Rattle.records.specs.Table.{record_bytes}
-use Rattle.lent.specs.Verdicts.{first}
+use Rattle.lent.specs.Verdicts.{first, refused}
 use Rattle.lent.specs.Numbers.{number_bytes}
 use Rattle.lent.specs.Lists.{list_bytes, put, fill}
 use Rattle.lent.proofs.Cases.{both}
@@ -28,24 +30,16 @@ use Rattle.lent.proofs.Writes.{fill-sets, length-wide}
 use Rattle.text.specs.Text.{text}
 use Rattle.lines.specs.Lines.{Line, line, lf, begun, lines, is_digit, value, all_digits, is_hex, is_source, is_numbers, offset_digits, record_digits, last_line, most_bytes, most_lines, faulty, record_rules, frame_rules}
 use Rattle.lines.specs.Frame.{spelt, hex_number, pairs, first_bytes, source_of, offset_of, fields_of, record_row, table_of}
-use Rattle.lines.specs.inner.Reading.{line_span, line_to, table_room, ReadRecords}
-use Rattle.lines.specs.declared.input.Records.{Records}
-use Rattle.lines.specs.declared.input.Records.TheVariants.{Faulty, Read}
+use Rattle.lines.specs.inner.Reading.{line_span, line_to, table_room, ReadRecords, ReadFrame}
+use Rattle.std.specs.Prelude.{Option, Some, None, Result, Ok, Err}
+use Rattle.std.specs.Option.{unwrap_or}
+use Rattle.std.proofs.lemmas.List.Sums.{prefix_len-le-length}
+use Rattle.lines.specs.declared.input.Frame.{Frame}
+use Rattle.std.specs.Result.{IsErrAnd}
 
 -- a list from byte i on: that byte, and what is behind it
 pub cut : (l : List ℕ) (i : ℕ) → i < length l → drop i l ≡ get_or l i 0 ∷ drop (i + 1) l
 cut l i h = rw add-one (drop-cons l i 0 h)
-
--- a part to the end of a list
-pub to_end : (l : List ℕ) (i : ℕ) → take (length l - i) (drop i l) ≡ drop i l
-to_end l i = take_all (length l - i) (drop i l) (rw (length-drop i l) (omega arith))
-
--- behind the last byte there is nothing more
-pub past : (l : List ℕ) (i : ℕ) → length l ≤ i → drop i l ≡ []
-past l i h = drop_of_length-le l h
-
-pub behind : (l : List ℕ) (i : ℕ) → length l ≤ i → drop i l ≡ drop (i + 1) l
-behind l i h = past l i h ∙ sym (past l (i + 1) (omega arith))
 
 take-most : (n : ℕ) (l : List ℕ) → length (take n l) ≤ n
 take-most zero l = omega arith
@@ -65,6 +59,13 @@ pub passes : (b : Bool) → not b ≡ false → b ≡ true
 passes true e = refl
 passes false e = absurd (let z : ◌≡◌ {A = ℕ} 0 1 = cc in omega arith)
 
+-- what `is_empty` says of a text's length
+pub some-left : (l : List ℕ) {b : Bool} → b ≡ eqb (length l) 0 → b ≡ false → 0 < length l
+some-left l e q = let z = eqb-false (length l) 0 (sym e ∙ q) in omega arith
+
+pub none-left : (l : List ℕ) {b : Bool} → b ≡ eqb (length l) 0 → b ≡ true → length l ≡ 0
+none-left l e q = eqb-true (length l) 0 (sym e ∙ q)
+
 -- ---- digits
 
 -- the value of a byte, by its place among the digits
@@ -72,9 +73,9 @@ pub value-decimal : (b : ℕ) → 48 ≤ b → b ≤ 57 → (b - 48 ≡ value b)
 unfolding value
 value-decimal b h g = (rw (le-leb 48 b h, le-leb b 57 g), omega arith)
 
-pub value-letter : (b : ℕ) → 97 ≤ b → b ≤ 102 → (b - 87 ≡ value b) × (b - 87 < 16)
+pub value-letter : (b : ℕ) → 97 ≤ b → b ≤ 102 → (b - 97 + 10 ≡ value b) × (b - 97 + 10 < 16)
 unfolding value
-value-letter b h g = (rw (lt-leb b 57 (omega arith), and-false, le-leb 97 b h, le-leb b 102 g), omega arith)
+value-letter b h g = (rw (lt-leb b 57 (omega arith), and-false, le-leb 97 b h, le-leb b 102 g) (omega arith), omega arith)
 
 pub value_low : (b : ℕ) → b < 48 → (0 ≡ value b) × (0 < 16)
 unfolding value
@@ -88,33 +89,37 @@ pub value-high : (b : ℕ) → 102 < b → (0 ≡ value b) × (0 < 16)
 unfolding value
 value-high b h = (rw (lt-leb b 57 (omega arith), and-false, lt-leb b 102 h, and-false), omega arith)
 
-module _ (bs : List ℕ) (i : ℕ) (so : all_digits bs ≡ all_digits (drop i bs)) where
-  pub digits-next : i < length bs → is_digit (get_or bs i 0) ≡ true → all_digits bs ≡ all_digits (drop (i + 1) bs)
-  unfolding all_digits
-  digits-next h q = so ∙ rw (cut bs i h, q)
-
-  pub digits-fail : i < length bs → is_digit (get_or bs i 0) ≡ false → false ≡ all_digits bs
-  unfolding all_digits
-  digits-fail h q = sym (so ∙ rw (cut bs i h, q))
-
-  pub digits-end : length bs ≤ i → true ≡ all_digits bs
-  unfolding all_digits
-  digits-end h = sym (so ∙ rw (drop_of_length-le bs h))
+pub digits-all : (bs : List ℕ) → list_all is_digit bs ≡ all_digits bs
+unfolding all_digits
+digits-all [] = refl
+digits-all (b ∷ bs) = rw (digits-all bs)
 
 -- ---- the end of a line
 
-module _ (bs : List ℕ) (i : ℕ) (so : line_span bs ≡ i + line_span (drop i bs)) where
-  pub span-next : i < length bs → (get_or bs i 0 ≡ lf → ⊥) → line_span bs ≡ i + 1 + line_span (drop (i + 1) bs)
-  unfolding line_span
-  span-next h q = so ∙ rw (cut bs i h, ne_eqb _ _ q) (omega arith)
+-- a byte is LF
+abbrev pub is_lf : ℕ → Bool
+is_lf b = eqb b lf
 
-  pub span-found : i < length bs → get_or bs i 0 ≡ lf → i ≡ line_span bs
-  unfolding line_span
-  span-found h q = sym (so ∙ rw (cut bs i h, eq-eqb _ _ q) (omega arith))
+span-place : (bs : List ℕ) → position_or_len is_lf bs ≡ line_span bs
+unfolding line_span
+span-place [] = refl
+span-place (b ∷ bs) = go (eqb b lf) refl (span-place bs)
+  where
+    go : (t : Bool) → eqb b lf ≡ t → position_or_len is_lf bs ≡ line_span bs → position_or_len is_lf (b ∷ bs) ≡ line_span (b ∷ bs)
+    go true e on = rw e
+    go false e on = rw (e, on) (omega arith)
 
-  pub span-end : length bs ≤ i → i ≡ line_span bs
-  unfolding line_span
-  span-end h = sym (so ∙ rw (drop_of_length-le bs h) (omega arith))
+pub span-or-end : (bs : List ℕ) {r : Option ℕ} {n : ℕ} → r ≡ cond (ltb (position_or_len is_lf bs) (length bs)) (Some (position_or_len is_lf bs)) None
+    → n ≡ unwrap_or r (length bs) → (n ≡ line_span bs) × (n ≤ length bs)
+span-or-end bs {r} {n} e q = go (ltb (position_or_len is_lf bs) (length bs)) refl (prefix_len-le-length (λ b. not (is_lf b)) bs)
+  where
+    go : (t : Bool) → ltb (position_or_len is_lf bs) (length bs) ≡ t → position_or_len is_lf bs ≤ length bs → (n ≡ line_span bs) × (n ≤ length bs)
+    go true f h = let v : n ≡ position_or_len is_lf bs = q ∙ rw (e, f) in (v ∙ span-place bs, omega arith)
+    go false f h =
+        let v : n ≡ length bs = q ∙ rw (e, f) in
+        let z = ltb-false _ _ f in
+        let l : n ≡ position_or_len is_lf bs = omega arith in
+        (l ∙ span-place bs, omega arith)
 
 -- ---- the lines of a text
 
@@ -236,11 +241,11 @@ module _ {all : List Line} {t₀ t : List ℕ} {n : ℕ} (bs : List ℕ) (some :
   split : lines bs ≡ line_to bs e ∷ lines (drop (e + 1) bs)
   split = rw q (first-line bs some)
 
-  ruled-so : cond (ltb last_line (n + 3) || not b) (Refused 9 (n + 3)) (first (record_rules (suc (n + 3)) (lines (drop (e + 1) bs)))) ≡ first (record_rules 3 all)
+  ruled-so : cond (ltb last_line (n + 3) || not b) (refused BadLine (n + 3)) (first (record_rules (suc (n + 3)) (lines (drop (e + 1) bs)))) ≡ first (record_rules 3 all)
   unfolding record_rules
   ruled-so = rw f (rw split at w.ruled)
 
-  pub reading-faulty : (ltb last_line (n + 3) || not b) ≡ true → Refused 9 (n + 3) ≡ first (record_rules 3 all)
+  pub reading-faulty : (ltb last_line (n + 3) || not b) ≡ true → refused BadLine (n + 3) ≡ first (record_rules 3 all)
   reading-faulty h = rw h at ruled-so
 
   pub reading-next : (ltb last_line (n + 3) || not b) ≡ false → {t' rest : List ℕ} → t' ≡ put t (record_bytes * n) (fields_of (take e bs)) → rest ≡ drop (e + 1) bs
@@ -274,24 +279,31 @@ front ls t₀ n e h =
     rw (fill-sets record_row t₀ 0 ls (omega arith), sets-eq (list_bytes record_row ls) t₀ 0 (omega arith)) (take_at (list_bytes record_row ls) _ (record_bytes * n) l)
 
 pub reading-end : (ls : List Line) (t₀ t : List ℕ) (n : ℕ) (bs : List ℕ) → length bs ≡ 0 → length t₀ ≡ table_room → n ≤ most_lines → Reading ls t₀ (lines bs) t n
-    → ReadRecords ls t (Read n)
+    → ReadRecords ls t (Ok n)
 unfolding ReadRecords lines record_rules fill
 reading-end ls t₀ t n [] z l h w =
     let e : n ≡ length ls = omega (arith, w.counted) in
     (w.ruled, e, h, rw w.filled (front ls t₀ n e (omega arith)))
 reading-end ls t₀ t n (b ∷ bs) z l h w = absurd (omega arith)
 
-module _ (ls : List Line) (t : List ℕ) {r : Records} {n : ℕ} where
-  pub records-faulty : r ≡ Faulty n → ReadRecords ls t r → Refused 9 n ≡ first (record_rules 3 ls)
+module _ (ls : List Line) (t : List ℕ) {r : Result ℕ Refusal} where
+  pub records-faulty : {b : Refusal} → r ≡ Err b → ReadRecords ls t r → Err b ≡ first (record_rules 3 ls)
   unfolding ReadRecords
   records-faulty e h = rw e at h
 
-  pub records-read : r ≡ Read n → ReadRecords ls t r
-      → (Admitted ≡ first (record_rules 3 ls)) × (n ≡ length ls) × (n ≤ most_lines) × (take (record_bytes * n) t ≡ list_bytes record_row ls)
+  pub records-read : {n : ℕ} → r ≡ Ok n → ReadRecords ls t r
+      → (Ok tt ≡ first (record_rules 3 ls)) × (n ≡ length ls) × (n ≤ most_lines) × (take (record_bytes * n) t ≡ list_bytes record_row ls)
   unfolding ReadRecords
   records-read e h = rw e at h
 
 -- ---- a frame
+
+-- a faulty line of a record that is passed on
+pub frame-faulty : (ls : List Line) (s t : List ℕ) (r : Result Frame Refusal) {b : Refusal} → IsErrAnd r (λ x. x ≡ b) → Err b ≡ first (frame_rules ls)
+    → ReadFrame ls s t r
+unfolding ReadFrame
+frame-faulty ls s t (Err x) e h = rw e h
+frame-faulty ls s t (Ok f) e h = absurd e
 
 pub lines-some : (bs : List ℕ) → 0 < length bs → 0 < length (lines bs)
 lines-some bs h = rw (first-line bs h) (omega arith)
@@ -314,7 +326,7 @@ module _ (input : List ℕ) {e : ℕ} (a : e ≡ line_span input) {s : Bool} (p 
   source-form : faulty is_source (lines input) ≡ not s
   source-form = first-faulty is_source source-unended input ∙ rw (p, a)
 
-  pub no_source : s ≡ false → Refused 9 1 ≡ first (frame_rules (lines input))
+  pub no_source : s ≡ false → refused BadLine 1 ≡ first (frame_rules (lines input))
   no_source q = rw (source-form, q)
 
   module _ (given : s ≡ true) (rest : List ℕ) (b : rest ≡ drop (e + 1) input) {f : ℕ} (c : f ≡ line_span rest) {o : Bool} (r : o ≡ is_numbers offset_digits (line_to rest f)) where
@@ -324,18 +336,18 @@ module _ (input : List ℕ) {e : ℕ} (a : e ≡ line_span input) {s : Bool} (p 
     offset-form : faulty (is_numbers offset_digits) (drop 1 (lines input)) ≡ not o
     offset-form = rw rest_lines (first-faulty (is_numbers offset_digits) (numbers-unended offset_digits) rest ∙ rw (r, c))
 
-    pub no-offset : o ≡ false → Refused 9 2 ≡ first (frame_rules (lines input))
+    pub no-offset : o ≡ false → refused BadLine 2 ≡ first (frame_rules (lines input))
     no-offset q = rw (source-form, given, offset-form, q)
 
     module _ (given' : o ≡ true) (records : List ℕ) (d : records ≡ drop (f + 1) rest) where
       record-lines : drop 2 (lines input) ≡ lines records
       record-lines = drop-two (lines input) ∙ rw rest_lines (lines-behind rest ∙ rw (d, c))
 
-      pub no_record : length records ≡ 0 → Refused 9 3 ≡ first (frame_rules (lines input))
+      pub no_record : length records ≡ 0 → refused BadLine 3 ≡ first (frame_rules (lines input))
       unfolding lines
       no_record z = rw (source-form, given, offset-form, given', record-lines) (none records z)
         where
-          none : (bs : List ℕ) → length bs ≡ 0 → Refused 9 3 ≡ cond (eqb (length (lines bs)) 0) (Refused 9 3) (first (record_rules 3 (lines bs)))
+          none : (bs : List ℕ) → length bs ≡ 0 → refused BadLine 3 ≡ cond (eqb (length (lines bs)) 0) (refused BadLine 3) (first (record_rules 3 (lines bs)))
           none [] z = refl
           none (x ∷ bs) z = absurd (omega arith)
 

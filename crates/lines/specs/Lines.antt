@@ -1,5 +1,6 @@
 -- Document 01, Worked by hand: the lines that glance reads, their form, and refusal 9.
 -- Definitions only.
+use Rattle.lent.specs.declared.refusal.Condition.TheVariants.{BadLine}
 use Rattle.std.specs.Prelude.{ℕ, suc, ◌+◌, ◌-◌, ◌*◌, ◌%◌, Bool, true, false, cond, not, ◌&&◌, ◌||◌, List, [], ◌∷◌, length, drop, ltb, leb, eqb}
 use Rattle.lent.specs.Verdicts.{Rule, rule}
 
@@ -92,12 +93,12 @@ last_line = 2 + most_lines
 -- the lines from line i on: a record each
 unfoldable pub record_rules : ℕ → List Line → List Rule
 record_rules i [] = []
-record_rules i (l ∷ ls) = rule 9 i (ltb last_line i || not (is_numbers record_digits l)) ∷ record_rules (suc i) ls
+record_rules i (l ∷ ls) = rule BadLine i (ltb last_line i || not (is_numbers record_digits l)) ∷ record_rules (suc i) ls
 
 -- the source, the offset, a record at least, and the records
 abbrev pub frame_rules : List Line → List Rule
 frame_rules ls =
-    rule 9 1 (faulty is_source ls)
-    ∷ rule 9 2 (faulty (is_numbers offset_digits) (drop 1 ls))
-    ∷ rule 9 3 (eqb (length (drop 2 ls)) 0)
+    rule BadLine 1 (faulty is_source ls)
+    ∷ rule BadLine 2 (faulty (is_numbers offset_digits) (drop 1 ls))
+    ∷ rule BadLine 3 (eqb (length (drop 2 ls)) 0)
     ∷ record_rules 3 (drop 2 ls)

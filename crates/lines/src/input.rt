@@ -9,9 +9,6 @@ use lent::list::put_entry;
 use records::record::RECORD_BYTES;
 use text::text::text_of;
 
-// Refusal 9: a line that is not of the stated form.
-pub const BAD_LINE: u32 = 9;
-
 // What ends a line.
 const LF: u8 = 10;
 
@@ -28,22 +25,12 @@ pub const RECORD_DIGITS: usize = 28;
 // How many bytes of room the table of a frame has.
 pub const TABLE_ROOM: usize = MOST_LINES * RECORD_BYTES;
 
-// What the reading of the records' lines finds.
+// A frame that is read: how many bytes its source has, the offset, and how many records.
 #[derive(Clone, Copy)]
-pub enum Records {
-    // the first faulty line
-    Faulty(u32),
-    // how many there are
-    Read(usize),
-}
-
-// What the reading of a frame finds.
-#[derive(Clone, Copy)]
-pub enum Frame {
-    // the first faulty line
-    Unreadable(u32),
-    // the source's bytes, the offset and the records
-    Given(usize, usize, usize),
+pub struct Frame {
+    pub bytes: usize,
+    pub offset: usize,
+    pub records: usize,
 }
 
 // The value of a digit; of any other byte 0.
@@ -51,8 +38,8 @@ pub fn value(b: u8) -> usize
     ensures { (result ≡ value b) × (result < 16) }
 {
     match b {
-        b'0'..=b'9' => (b - 48) as usize,
-        b'a'..=b'f' => (b - 87) as usize,
+        b'0'..=b'9' => usize::from(b - b'0'),
+        b'a'..=b'f' => usize::from(b - b'a') + 10,
         _ => 0,
     }
 }
@@ -61,35 +48,21 @@ pub fn value(b: u8) -> usize
 fn is_digit(b: u8) -> bool
     ensures { result ≡ is_digit b }
 {
-    ((b'0' <= b) & (b <= b'9')) | ((b'a' <= b) & (b <= b'f'))
+    (b'0'..=b'9').contains(&b) | (b'a'..=b'f').contains(&b)
 }
 
 // Are all bytes digits?
 fn all_digits(bytes: &[u8]) -> bool
     ensures { result ≡ all_digits bytes.now }
 {
-    let mut i = 0;
-    while i < bytes.len() {
-        if !is_digit(bytes[i]) {
-            return false;
-        }
-        i += 1;
-    }
-    true
+    bytes.iter().all(|b| is_digit(*b))
 }
 
 // Where the first line ends: at its LF, or with the text.
 pub fn line_end(text: &[u8]) -> usize
     ensures { (result ≡ line_span text.now) × (result ≤ length text.now) }
 {
-    let mut i = 0;
-    while i < text.len() {
-        if text[i] == LF {
-            return i;
-        }
-        i += 1;
-    }
-    i
+    text.iter().position(|b| *b == LF).unwrap_or(text.len())
 }
 
 // The text behind a line that ends at byte end.
@@ -97,11 +70,7 @@ pub fn after_line(text: &[u8], end: usize) -> &[u8]
     requires { end ≤ length text.now }
     ensures { result.now ≡ drop (end + 1) text.now }
 {
-    if end < text.len() {
-        let next = end + 1;
-        return &text[next..];
-    }
-    &text[end..]
+    text.get(end + 1..).unwrap_or(&[])
 }
 
 // The text's first line is digits alone, and is ended.
@@ -134,10 +103,8 @@ pub fn number(digits: &[u8]) -> usize
     ensures { result ≡ hex_number digits.now }
 {
     let mut v = 0;
-    let mut i = 0;
-    while i < digits.len() {
-        v = v * 16 + value(digits[i]);
-        i += 1;
+    for d in digits {
+        v = v * 16 + value(*d);
     }
     v
 }

@@ -1,30 +1,26 @@
 -- From the rows that the walks write to the four lists of typed entries.
 -- Assumes nothing.
-use Prim.Native.Nat.{ℕ, ◌+◌, ◌*◌, ◌/◌, ◌≤◌, ◌<◌}
+use Prim.Native.Nat.{ℕ, ◌*◌, ◌≤◌, ◌<◌}
 use mathlib.Core.Path.{◌≡◌, refl, sym, ◌∙◌}
 use mathlib.Core.Bool.{Bool, true, false, cond, ◌||◌}
 use mathlib.Core.List.{List, [], ◌++◌, map, map-append}
 use native.Mathlib.Omega.{arith}
 use lib.Dec.{eqb}
-use lib.ListN.{length, take, drop, length-map}
-use Rattle.lent.specs.declared.verdict.Verdict.{Verdict}
-use Rattle.lent.specs.declared.verdict.Verdict.TheVariants.{Admitted, Refused}
-use Rattle.lent.specs.declared.list.Listed.{Listed}
-use Rattle.lent.specs.declared.list.Listed.TheVariants.{Entries, Refused as Denied}
+use lib.ListN.{length, length-map}
+use Rattle.references.specs.declared.pending.TableRef.{TableRef}
+use Rattle.names.specs.declared.names.NameBinding.{NameBinding}
+use Rattle.std.specs.Prelude.{Ok, Err, Result, Option, Some, None}
+use Rattle.lent.specs.declared.refusal.Refusal.{Refusal}
 use Rattle.records.specs.Kinds.{with_clause, from_clause, join_clause, subquery_expression, table_identifier, table_expression, table_alias}
 use Rattle.records.specs.Table.{count, record_at, records, part}
 use Rattle.forest.specs.Forest.{Forest, nil, token, node, kids, stretch_end}
 use Rattle.conditions.specs.Conditions.{most_records}
 use Rattle.table.specs.Rules.{root_rules, root_verdict}
-use Rattle.lent.specs.Verdicts.{Rule, first}
+use Rattle.lent.specs.Verdicts.{Rule, first, Verdict}
 use Rattle.lent.specs.Numbers.{number_bytes}
-use Rattle.lent.specs.Lists.{list_bytes, listed, lent, Answers, Written}
+use Rattle.lent.specs.Lists.{list_bytes, listed, lent}
 use Rattle.table.proofs.Checks.{root-known}
-use Rattle.lent.proofs.Writes.{length-wide, bytes-map, listed-map, lent_map, sized-copied, sized-filled, sized-short}
-use Rattle.names.specs.declared.names.Bound.{Bound}
-use Rattle.names.specs.declared.names.Bound.TheVariants.{Unnamed, Named}
-use Rattle.references.specs.declared.pending.Pending.{Pending}
-use Rattle.references.specs.declared.pending.Pending.TheVariants.{Nothing, Held}
+use Rattle.lent.proofs.Writes.{length-wide, bytes-map, listed-map, lent_map}
 use Rattle.clauses.specs.declared.clauses.ScopeList.{ScopeList}
 use Rattle.clauses.specs.declared.clauses.ScopeList.TheVariants.{WithNames, TableAliases, ColumnAliases, TableRefs}
 use Rattle.names.specs.Names.{is_part, direct, alias_in}
@@ -69,45 +65,45 @@ module _ {E F : Type 0} (row : E → F) (L : Listing E) where
   abbrev pub mapped : Listing F
   mapped = record { reference = λ t. map row (L.reference t); alias = λ b. map row (L.alias b) }
 
-  hand-map : (p : Pending) → hand_on mapped p ≡ map row (hand_on L p)
+  hand-map : (p : Option TableRef) → hand_on mapped p ≡ map row (hand_on L p)
   unfolding hand_on
-  hand-map Nothing = refl
-  hand-map (Held t) = refl
+  hand-map None = refl
+  hand-map (Some t) = refl
 
-  alias-map : (p : Pending) (b : Bound) → list_alias mapped p b ≡ map row (list_alias L p b)
+  alias-map : (p : Option TableRef) (b : Option NameBinding) → list_alias mapped p b ≡ map row (list_alias L p b)
   unfolding list_alias
-  alias-map Nothing b = refl
-  alias-map (Held t) Unnamed = refl
-  alias-map (Held t) (Named b) = refl
+  alias-map None b = refl
+  alias-map (Some t) None = refl
+  alias-map (Some t) (Some b) = refl
 
-  reading-map : (src : List ℕ) (p : Pending) (f : Forest) → table_reading mapped src p f ≡ map row (table_reading L src p f)
+  reading-map : (src : List ℕ) (p : Option TableRef) (f : Forest) → table_reading mapped src p f ≡ map row (table_reading L src p f)
   unfolding table_reading
   reading-map src p nil = hand-map p
   reading-map src p (token r rest) = reading-map src p rest
-  reading-map src p (node r below rest) = go (eqb r.kind table_identifier) (eqb r.kind table_alias) (eqb r.kind table_expression) (eqb r.kind join_clause) (reading-map src Nothing below) (λ q. reading-map src q rest)
+  reading-map src p (node r below rest) = go (eqb r.kind table_identifier) (eqb r.kind table_alias) (eqb r.kind table_expression) (eqb r.kind join_clause) (reading-map src None below) (λ q. reading-map src q rest)
     where
-      named : Pending
+      named : Option TableRef
       named = fresh src r.index (direct is_part below)
 
-      bound : Bound
+      bound : Option NameBinding
       bound = alias_in src r below
 
-      go : (a b c d : Bool) → table_reading mapped src Nothing below ≡ map row (table_reading L src Nothing below)
-          → ((q : Pending) → table_reading mapped src q rest ≡ map row (table_reading L src q rest))
-          → cond a (hand_on mapped p ++ table_reading mapped src named rest) (cond b (list_alias mapped p bound ++ table_reading mapped src (aliased p bound) rest) (cond c (table_reading mapped src Nothing below ++ table_reading mapped src p rest) (cond d (hand_on mapped p ++ (table_reading mapped src Nothing below ++ table_reading mapped src Nothing rest)) (table_reading mapped src p rest))))
-          ≡ map row (cond a (hand_on L p ++ table_reading L src named rest) (cond b (list_alias L p bound ++ table_reading L src (aliased p bound) rest) (cond c (table_reading L src Nothing below ++ table_reading L src p rest) (cond d (hand_on L p ++ (table_reading L src Nothing below ++ table_reading L src Nothing rest)) (table_reading L src p rest)))))
+      go : (a b c d : Bool) → table_reading mapped src None below ≡ map row (table_reading L src None below)
+          → ((q : Option TableRef) → table_reading mapped src q rest ≡ map row (table_reading L src q rest))
+          → cond a (hand_on mapped p ++ table_reading mapped src named rest) (cond b (list_alias mapped p bound ++ table_reading mapped src (aliased p bound) rest) (cond c (table_reading mapped src None below ++ table_reading mapped src p rest) (cond d (hand_on mapped p ++ (table_reading mapped src None below ++ table_reading mapped src None rest)) (table_reading mapped src p rest))))
+          ≡ map row (cond a (hand_on L p ++ table_reading L src named rest) (cond b (list_alias L p bound ++ table_reading L src (aliased p bound) rest) (cond c (table_reading L src None below ++ table_reading L src p rest) (cond d (hand_on L p ++ (table_reading L src None below ++ table_reading L src None rest)) (table_reading L src p rest)))))
       go true b c d i o = rw (hand-map p, o named) (sym (map-append row (hand_on L p) (table_reading L src named rest)))
       go false true c d i o = rw (alias-map p bound, o (aliased p bound)) (sym (map-append row (list_alias L p bound) (table_reading L src (aliased p bound) rest)))
-      go false false true d i o = rw (i, o p) (sym (map-append row (table_reading L src Nothing below) (table_reading L src p rest)))
+      go false false true d i o = rw (i, o p) (sym (map-append row (table_reading L src None below) (table_reading L src p rest)))
       go false false false true i o =
-          rw (hand-map p, i, o Nothing, map-append row (hand_on L p) (table_reading L src Nothing below ++ table_reading L src Nothing rest), map-append row (table_reading L src Nothing below) (table_reading L src Nothing rest))
+          rw (hand-map p, i, o None, map-append row (hand_on L p) (table_reading L src None below ++ table_reading L src None rest), map-append row (table_reading L src None below) (table_reading L src None rest))
       go false false false false i o = o p
 
   pub tables-map : (src : List ℕ) (k : ℕ) (f : Forest) → own_tables mapped src k f ≡ map row (own_tables L src k f)
   unfolding own_tables
-  tables-map src k f = rw (reading-map src Nothing f) (go (eqb k from_clause || eqb k join_clause))
+  tables-map src k f = rw (reading-map src None f) (go (eqb k from_clause || eqb k join_clause))
     where
-      go : (b : Bool) → cond b (map row (table_reading L src Nothing f)) [] ≡ map row (cond b (table_reading L src Nothing f) [])
+      go : (b : Bool) → cond b (map row (table_reading L src None f)) [] ≡ map row (cond b (table_reading L src None f) [])
       go true = refl
       go false = refl
 
@@ -131,14 +127,14 @@ wide_rows : {E : Type 0} (row : E → List ℕ) (w : ℕ) → ((e : E) → numbe
     → length (list_bytes as_row rs) ≡ length rs * w
 wide_rows row w h es q = rw (q, bytes-map row es, length-map es row) (length-wide row w h es)
 
-wide_at : (asked : ScopeList) (src t : List ℕ) (i : ℕ) → length (list_bytes as_row (rows_at asked src t i)) ≡ length (rows_at asked src t i) * width asked
+pub wide_at : (asked : ScopeList) (src t : List ℕ) (i : ℕ) → length (list_bytes as_row (rows_at asked src t i)) ≡ length (rows_at asked src t i) * width asked
 unfolding width
 wide_at WithNames src t i = wide_rows binding_row 24 (λ e. refl) (with_names src t i) (with_rows src t i)
 wide_at TableAliases src t i = wide_rows binding_row 24 (λ e. refl) (table_aliases src t i) (alias-rows src t i)
 wide_at ColumnAliases src t i = wide_rows binding_row 24 (λ e. refl) (column_aliases src t i) (column-rows src t i)
 wide_at TableRefs src t i = wide_rows reference_row 52 (λ e. refl) (table_refs src t i) (reference-rows src t i)
 
-wide-some : (asked : ScopeList) → 0 < width asked
+pub wide-some : (asked : ScopeList) → 0 < width asked
 unfolding width
 wide-some WithNames = omega arith
 wide-some TableAliases = omega arith
@@ -148,32 +144,18 @@ wide-some TableRefs = omega arith
 -- ---- one question for rows
 
 module _ (t : List ℕ) (n i : ℕ) {v : Verdict} (e : v ≡ root_verdict t n i) where
-  pub root-first : {k d : ℕ} → v ≡ Refused k d → Refused k d ≡ first (root_rules t n i)
+  pub root-first : {r : Refusal} → v ≡ Err r → Err r ≡ first (root_rules t n i)
   unfolding root_verdict
   root-first q = sym q ∙ e
 
-  pub root-passed : v ≡ Admitted → Admitted ≡ first (root_rules t n i)
+  pub root-passed : v ≡ Ok tt → Ok tt ≡ first (root_rules t n i)
   unfolding root_verdict
   root-passed q = sym q ∙ e
 
-  pub root-some : v ≡ Admitted → (count t ≤ most_records) × (i < count t)
+  pub root-some : v ≡ Ok tt → (count t ≤ most_records) × (i < count t)
   root-some q = root-known t n i (sym q ∙ e)
 
-module _ (asked : ScopeList) (src t : List ℕ) (i : ℕ) (rs : List Rule) (out : List ℕ) {s kept kept' : List ℕ} {m n : ℕ} (q : s ≡ part t i (stretch_end t i)) (ok : Admitted ≡ first rs)
-    (c : Written as_row (collection_of (own_rows asked src) i s) kept 0 kept' m) (d : n ≡ m / width asked) where
-  pub rows-copied : {out' : List ℕ} → m ≤ length kept → m ≤ length out → out' ≡ take m kept' ++ drop m out → Answers rs as_row (rows_at asked src t i) out (Entries n) out'
-  rows-copied h g e = rw d (sized-copied as_row (width asked) (rows_at asked src t i) (wide_at asked src t i) (wide-some asked) rs out ok (rw q at c) h g e)
-
-  pub rows-filled : {out' : List ℕ} {m' : ℕ} → Written as_row (collection_of (own_rows asked src) i s) out 0 out' m' → m ≤ length out
-      → Answers rs as_row (rows_at asked src t i) out (Entries n) out'
-  rows-filled {out'} {m'} c' h =
-      let same : m' ≡ m = omega (arith, c.next, c'.next) in
-      rw (d, ← same) (sized-filled as_row (width asked) (rows_at asked src t i) (wide_at asked src t i) (wide-some asked) rs out ok (rw q at c') (omega arith))
-
-  pub rows_short : length out < m → Answers rs as_row (rows_at asked src t i) out (Denied 7 n) out
-  rows_short h = rw d (sized-short as_row (width asked) (rows_at asked src t i) (wide_at asked src t i) (wide-some asked) rs out ok (let x = rw q at c.next in omega arith) h)
-
 -- the answer in rows is the answer in entries
-pub question : {E : Type 0} (row : E → List ℕ) (es : List E) {ls : List (List ℕ)} (rs : List Rule) (out : List ℕ) {r : Listed} {out' : List ℕ} → ls ≡ map row es
+pub question : {E : Type 0} (row : E → List ℕ) (es : List E) {ls : List (List ℕ)} (rs : List Rule) (out : List ℕ) {r : Result ℕ Refusal} {out' : List ℕ} → ls ≡ map row es
     → (r ≡ listed rs as_row ls out) × (out' ≡ lent rs as_row ls out) → (r ≡ listed rs row es out) × (out' ≡ lent rs row es out)
 question row es rs out q a = (a.0 ∙ rw q (listed-map row rs es out), a.1 ∙ rw q (lent_map row rs es out))

@@ -10,6 +10,8 @@ use mathlib.Core.List.{List, [], ◌∷◌, ◌++◌}
 use native.Mathlib.Omega.{arith}
 use lib.Dec.{leb, eqb}
 use lib.ListN.{length, length-append}
+use Rattle.names.specs.declared.names.NameBinding.{NameBinding}
+use Rattle.std.specs.Prelude.{Option, Some, None}
 use Rattle.records.specs.declared.record.Rec.{Rec}
 use Rattle.records.specs.declared.range.Range.{Range}
 use Rattle.records.specs.Kinds.{quoted_identifier, with_expression_item, column_list, expression_list, column_alias}
@@ -20,8 +22,6 @@ use Rattle.forest.specs.Forest.{Forest, nil, token, node}
 use Rattle.forest.specs.Limits.{WithinSource, AllWithinSource, Limited, SpansFit, size}
 use Rattle.forest.proofs.Limits.{Fitting, near-chosen}
 use Rattle.quotes.specs.declared.quotes.NameRanges.{NameRanges}
-use Rattle.names.specs.declared.names.Bound.{Bound}
-use Rattle.names.specs.declared.names.Bound.TheVariants.{Unnamed, Named}
 use Rattle.names.specs.Names.{is_name, direct, binding, first_named, last_named, with_item, alias_in}
 use Rattle.quotes.specs.Quotes.{byte_at, is_mark, unquoted, name_of, absent_name}
 use Rattle.names.specs.Bindings.{entry, bound_in, with_items, select_aliases, binding_row}
@@ -69,11 +69,11 @@ direct-near test (node r below rest) w = direct-near test rest w.2
 abbrev SpanFits : Rec → Type 0
 SpanFits r = (r.start < 4294967296) × (r.end < 4294967296)
 
-unfoldable pub BoundFits : Bound → Type 0
-BoundFits Unnamed = Unit
-BoundFits (Named b) = Fit32 (binding_row b)
+unfoldable pub BoundFits : Option NameBinding → Type 0
+BoundFits None = Unit
+BoundFits (Some b) = Fit32 (binding_row b)
 
-binding-fits : (src : List ℕ) (r t : Rec) → SpanFits r → WithinSource t → BoundFits (Named (binding src r t))
+binding-fits : (src : List ℕ) (r t : Rec) → SpanFits r → WithinSource t → BoundFits (Some (binding src r t))
 unfolding BoundFits binding Fit32
 binding-fits src r t s h = let n = name-fits src t h in (n.0, (n.1.0, (n.1.1.0, (n.1.1.1.0, (s.0, (s.1, tt))))))
 
@@ -82,10 +82,10 @@ unfolding first_named AllWithinSource
 first_fits src r [] s w = (unfold BoundFits in tt)
 first_fits src r (t ∷ more) s w = binding-fits src r t s w.0
 
-last_fits : (src : List ℕ) (r : Rec) (b : Bound) (ts : List Rec) → SpanFits r → BoundFits b → AllWithinSource ts → BoundFits (last_named src r b ts)
+last_fits : (src : List ℕ) (r : Rec) (b : Option NameBinding) (ts : List Rec) → SpanFits r → BoundFits b → AllWithinSource ts → BoundFits (last_named src r b ts)
 unfolding last_named AllWithinSource
 last_fits src r b [] s h w = h
-last_fits src r b (t ∷ more) s h w = last_fits src r (Named (binding src r t)) more s (binding-fits src r t s w.0) w.1
+last_fits src r b (t ∷ more) s h w = last_fits src r (Some (binding src r t)) more s (binding-fits src r t s w.0) w.1
 
 -- a WITH item and an alias, among their siblings
 module _ (src : List ℕ) (r : Rec) (below rest : Forest) (w : Fitting (node r below rest)) where
@@ -95,21 +95,21 @@ module _ (src : List ℕ) (r : Rec) (below rest : Forest) (w : Fitting (node r b
 
   pub alias-fits : BoundFits (alias_in src r below)
   unfolding Limited SpansFit
-  alias-fits = last_fits src r Unnamed (direct (is_name src) below) w.1.0 (unfold BoundFits in tt) (direct-near (is_name src) below w.0.1)
+  alias-fits = last_fits src r None (direct (is_name src) below) w.1.0 (unfold BoundFits in tt) (direct-near (is_name src) below w.0.1)
 
 -- ---- what a clause binds
 
-pub entry-fits : (b : Bound) → BoundFits b → AllFit32 binding_row (entry b)
+pub entry-fits : (b : Option NameBinding) → BoundFits b → AllFit32 binding_row (entry b)
 unfolding BoundFits entry AllFit32
-entry-fits Unnamed h = tt
-entry-fits (Named b) h = (h, tt)
+entry-fits None h = tt
+entry-fits (Some b) h = (h, tt)
 
-pub entry-one : (b : Bound) → length (entry b) ≤ 1
+pub entry-one : (b : Option NameBinding) → length (entry b) ≤ 1
 unfolding entry
-entry-one Unnamed = omega arith
-entry-one (Named b) = omega arith
+entry-one None = omega arith
+entry-one (Some b) = omega arith
 
-module _ (kind : ℕ) (is_list : ℕ → Bool) (bind : Rec → Forest → Bound) where
+module _ (kind : ℕ) (is_list : ℕ → Bool) (bind : Rec → Forest → Option NameBinding) where
   pub bound-fits : ((r : Rec) (below rest : Forest) → Fitting (node r below rest) → BoundFits (bind r below)) → (f : Forest) → Fitting f → AllFit32 binding_row (bound_in kind is_list bind f)
   unfolding bound_in Limited SpansFit
   bound-fits fits nil w = (unfold AllFit32 in tt)

@@ -7,6 +7,7 @@ use mathlib.Core.Logic.{⊎_elim}
 use mathlib.Core.List.{List, [], ◌∷◌}
 use native.Mathlib.Omega.{arith}
 use borrow.Author.Tests.{eq-eqb, ne_eqb}
+use Rattle.std.specs.Prelude.{Option, Some, None}
 use Rattle.records.specs.declared.record.Rec.{Rec}
 use Rattle.records.specs.Kinds.{last_node, bare_word, quoted_identifier}
 use Rattle.records.specs.Table.{count, kind_at, record_at}
@@ -15,8 +16,6 @@ use Rattle.text.specs.Text.{bytes_of, text, says}
 use Rattle.forest.proofs.Walks.{Walk, walk_here}
 use Rattle.forest.proofs.Laws.{node-or-token}
 use Rattle.names.specs.declared.names.NameBinding.{NameBinding}
-use Rattle.names.specs.declared.names.Bound.{Bound}
-use Rattle.names.specs.declared.names.Bound.TheVariants.{Unnamed, Named}
 use Rattle.names.specs.Names.{is_part, is_name, is_as, direct, binding, first_named, last_named, with_item}
 
 -- ---- texts
@@ -81,7 +80,7 @@ module _ (test : Rec → Bool) (t : Rec) where
 -- ---- the first name, and the last
 
 module _ (src : List ℕ) (r t : Rec) where
-  pub first-here : (f : Forest) → is_name src t ≡ true → with_item src r (token t f) ≡ Named (binding src r t)
+  pub first-here : (f : Forest) → is_name src t ≡ true → with_item src r (token t f) ≡ Some (binding src r t)
   unfolding first_named
   first-here f e = rw (direct-yes (is_name src) t f e)
 
@@ -92,26 +91,26 @@ module _ (src : List ℕ) (r t : Rec) where
   first-over b f = rw (direct-node (is_name src) t b f)
 
 -- a loop for the first name ends at a token that is one
-pub first-stop : (src : List ℕ) {s : List ℕ} {base i : ℕ} {r r' t : Rec} {b : NameBinding} {n : Bool} {«all» : Bound} → Walk s base i (with_item src r) «all» → i < count s
-    → t ≡ record_at s base i → n ≡ is_name src t → n ≡ true → r' ≡ r → b ≡ binding src r' t → Named b ≡ «all»
+pub first-stop : (src : List ℕ) {s : List ℕ} {base i : ℕ} {r r' t : Rec} {b : NameBinding} {n : Bool} {«all» : Option NameBinding} → Walk s base i (with_item src r) «all» → i < count s
+    → t ≡ record_at s base i → n ≡ is_name src t → n ≡ true → r' ≡ r → b ≡ binding src r' t → Some b ≡ «all»
 first-stop src {s} {base} {i} {r} w h t n y q b =
     let e : is_name src (record_at s base i) ≡ true = rw (← t, ← n) y in
     rw (b, q, t) (sym (first-here src r (record_at s base i) _ e) ∙ walk_here w h (name-at src s base i e))
 
-pub first-end : (src : List ℕ) (r : Rec) → Unnamed ≡ with_item src r nil
+pub first-end : (src : List ℕ) (r : Rec) → None ≡ with_item src r nil
 unfolding first_named direct
 first-end src r = refl
 
 -- the last name where the node r has bound b so far
-abbrev pub last_from : List ℕ → Rec → Bound → Forest → Bound
+abbrev pub last_from : List ℕ → Rec → Option NameBinding → Forest → Option NameBinding
 last_from src r b f = last_named src r b (direct (is_name src) f)
 
-module _ (src : List ℕ) (r t : Rec) (b : Bound) {b' : Bound} (e : b' ≡ cond (is_name src t) (Named (binding src r t)) b) where
+module _ (src : List ℕ) (r t : Rec) (b : Option NameBinding) {b' : Option NameBinding} (e : b' ≡ cond (is_name src t) (Some (binding src r t)) b) where
   pub last-token : (f : Forest) → last_from src r b (token t f) ≡ last_from src r b' f
   unfolding direct last_named
   last-token f = rw e (go (is_name src t))
     where
-      go : (n : Bool) → last_named src r b (cond n (t ∷ direct (is_name src) f) (direct (is_name src) f)) ≡ last_named src r (cond n (Named (binding src r t)) b) (direct (is_name src) f)
+      go : (n : Bool) → last_named src r b (cond n (t ∷ direct (is_name src) f) (direct (is_name src) f)) ≡ last_named src r (cond n (Some (binding src r t)) b) (direct (is_name src) f)
       go true = refl
       go false = refl
 
@@ -119,6 +118,6 @@ module _ (src : List ℕ) (r t : Rec) (b : Bound) {b' : Bound} (e : b' ≡ cond 
   unfolding direct
   last-over below f h = rw (e, name-node src t h)
 
-pub last_end : (src : List ℕ) (r : Rec) (b : Bound) → b ≡ last_from src r b nil
+pub last_end : (src : List ℕ) (r : Rec) (b : Option NameBinding) → b ≡ last_from src r b nil
 unfolding direct last_named
 last_end src r b = refl

@@ -1,25 +1,23 @@
 -- What the items of a WITH clause and the aliases of a SELECT clause bind, and their entries.
 -- src is the source's bytes.
 -- Definitions only.
-use Rattle.std.specs.Prelude.{ℕ, ◌*◌, Bool, cond, ◌||◌, List, [], ◌∷◌, ◌++◌, eqb}
+use Rattle.std.specs.Prelude.{ℕ, ◌*◌, Bool, cond, ◌||◌, List, [], ◌∷◌, ◌++◌, eqb, Option, Some, None}
 use Rattle.records.specs.declared.record.Rec.{Rec}
 use Rattle.records.specs.Kinds.{with_expression_item, column_list, expression_list, column_alias}
 use Rattle.forest.specs.Forest.{Forest, nil, token, node}
 use Rattle.names.specs.declared.names.NameBinding.{NameBinding}
-use Rattle.names.specs.declared.names.Bound.{Bound}
-use Rattle.names.specs.declared.names.Bound.TheVariants.{Unnamed, Named}
 use Rattle.names.specs.Names.{with_item, alias_in}
 use Rattle.lent.specs.Numbers.{number_bytes}
 
 -- ---- WITH items and column aliases
 
 -- without a name there is no entry
-unfoldable pub entry : Bound → List NameBinding
-entry Unnamed = []
-entry (Named b) = b ∷ []
+unfoldable pub entry : Option NameBinding → List NameBinding
+entry None = []
+entry (Some b) = b ∷ []
 
 -- what the siblings of one kind bind, also those in lists, at any nesting
-unfoldable pub bound_in : ℕ → (ℕ → Bool) → (Rec → Forest → Bound) → Forest → List NameBinding
+unfoldable pub bound_in : ℕ → (ℕ → Bool) → (Rec → Forest → Option NameBinding) → Forest → List NameBinding
 bound_in kind is_list bind nil = []
 bound_in kind is_list bind (token r rest) = bound_in kind is_list bind rest
 bound_in kind is_list bind (node r below rest) =

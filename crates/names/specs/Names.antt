@@ -1,15 +1,13 @@
 -- Names in a source: which tokens are names, and what a node binds.
 -- src is the source's bytes.
 -- Definitions only.
-use Rattle.std.specs.Prelude.{ℕ, Bool, cond, not, ◌&&◌, ◌||◌, List, [], ◌∷◌, eqb}
+use Rattle.std.specs.Prelude.{ℕ, Bool, cond, not, ◌&&◌, ◌||◌, List, [], ◌∷◌, eqb, Option, Some, None}
 use Rattle.records.specs.declared.record.Rec.{Rec}
 use Rattle.records.specs.Kinds.{bare_word, quoted_identifier}
 use Rattle.forest.specs.Forest.{Forest, nil, token, node}
 use Rattle.text.specs.Text.{bytes_of, text, says}
 use Rattle.quotes.specs.declared.quotes.NameRanges.{NameRanges}
 use Rattle.names.specs.declared.names.NameBinding.{NameBinding}
-use Rattle.names.specs.declared.names.Bound.{Bound}
-use Rattle.names.specs.declared.names.Bound.TheVariants.{Unnamed, Named}
 use Rattle.records.specs.Ranges.{span}
 use Rattle.quotes.specs.Quotes.{name_of}
 
@@ -47,19 +45,19 @@ abbrev pub bound_name : NameBinding → NameRanges
 bound_name b = record { outer = b.token; inner = b.name }
 
 -- the node r binds the first of these name tokens
-unfoldable pub first_named : List ℕ → Rec → List Rec → Bound
-first_named src r [] = Unnamed
-first_named src r (t ∷ more) = Named (binding src r t)
+unfoldable pub first_named : List ℕ → Rec → List Rec → Option NameBinding
+first_named src r [] = None
+first_named src r (t ∷ more) = Some (binding src r t)
 
 -- the node r binds the last of these name tokens, or b where there is none
-unfoldable pub last_named : List ℕ → Rec → Bound → List Rec → Bound
+unfoldable pub last_named : List ℕ → Rec → Option NameBinding → List Rec → Option NameBinding
 last_named src r b [] = b
-last_named src r b (t ∷ more) = last_named src r (Named (binding src r t)) more
+last_named src r b (t ∷ more) = last_named src r (Some (binding src r t)) more
 
 -- a WITH item r with these children: its first direct name
-abbrev pub with_item : List ℕ → Rec → Forest → Bound
+abbrev pub with_item : List ℕ → Rec → Forest → Option NameBinding
 with_item src r below = first_named src r (direct (is_name src) below)
 
 -- an alias r with these children: its last direct name
-abbrev pub alias_in : List ℕ → Rec → Forest → Bound
-alias_in src r below = last_named src r Unnamed (direct (is_name src) below)
+abbrev pub alias_in : List ℕ → Rec → Forest → Option NameBinding
+alias_in src r below = last_named src r None (direct (is_name src) below)

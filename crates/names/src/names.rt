@@ -1,15 +1,13 @@
 // Names in a source: which tokens are names, and what a WITH item or an alias binds.
-ghost use Rattle.std.specs.Prelude.{◌≡◌, cond, ◌+◌, ◌≤◌, ◌<◌};
-ghost use Rattle.records.specs.Table.{count, record_at, records};
-ghost use Rattle.forest.specs.Forest.{kids};
-ghost use Rattle.conditions.specs.Conditions.{most_records};
+ghost use Rattle.std.specs.Prelude.{◌≡◌, cond};
+ghost use Rattle.forest.specs.Parts.{head, below};
 ghost use Rattle.names.specs.Names.{is_as, is_part, is_name, binding, bound_name, with_item, alias_in};
 
-use forest::stretch::child_from;
+use forest::part::Part;
 use quotes::quotes::{NameRanges, name_of};
 use records::kinds::{BARE_WORD, QUOTED_IDENTIFIER};
-use records::range::{Range, span_of};
-use records::record::{Rec, count_of, record_at};
+use records::range::Range;
+use records::record::Rec;
 use text::text::{says, text_of};
 
 // A name that a WITH item, a table alias or a column alias binds.
@@ -18,13 +16,6 @@ pub struct NameBinding {
     pub token: Range,
     pub name: Range,
     pub definition: Range,
-}
-
-// What a node binds.
-#[derive(Clone, Copy)]
-pub enum Bound {
-    Unnamed,
-    Named(NameBinding),
 }
 
 // Is the token's text AS, in any ASCII case?
@@ -64,7 +55,7 @@ fn binding_of(source: &[u8], r: Rec, t: Rec) -> NameBinding
     NameBinding {
         token,
         name,
-        definition: span_of(r),
+        definition: Range::from(r),
     }
 }
 
@@ -77,46 +68,46 @@ pub fn bound_name(b: NameBinding) -> NameRanges
     NameRanges { outer, inner }
 }
 
-// What a WITH item, the first record of the stretch s, binds: its first name.
-pub fn extract_cte(s: &[u8], base: usize, source: &[u8]) -> Bound
-    requires { (0 < count s.now) × (base + count s.now ≤ most_records) }
-    ensures { result ≡ with_item source.now (record_at s.now base 0) (kids (records base s.now)) }
+// What a WITH item, the first record of the part, binds: its first name.
+pub fn extract_cte(part: &Part, source: &[u8]) -> Option<NameBinding>
+    ensures { result ≡ with_item source.now (head part.now) (below part.now) }
 {
-    let m = count_of(s);
-    let mut i = child_from(s, 1);
+    let m = part.count();
+    let mut i = part.child_from(1);
+    // While, not for: the next child begins where the records of this one end.
     while i < m {
-        let t = record_at(s, base, i);
+        let t = part.record_at(i);
         if is_name(source, t) {
-            return Bound::Named(binding_of(source, record_at(s, base, 0), t));
+            return Some(binding_of(source, part.record_at(0), t));
         }
-        i = child_from(s, i + 1);
+        i = part.child_from(i + 1);
     }
-    Bound::Unnamed
+    None
 }
 
 // What the node r binds after its token t, where it bound b before.
-fn later(source: &[u8], r: Rec, b: Bound, t: Rec) -> Bound
-    ensures { result ≡ cond (is_name source.now t) (Bound.Named (binding source.now r t)) b }
+fn later(source: &[u8], r: Rec, b: Option<NameBinding>, t: Rec) -> Option<NameBinding>
+    ensures { result ≡ cond (is_name source.now t) (Some (binding source.now r t)) b }
 {
     if is_name(source, t) {
-        Bound::Named(binding_of(source, r, t))
+        Some(binding_of(source, r, t))
     } else {
         b
     }
 }
 
-// What an alias, the first record of the stretch s, binds: its last name.
-pub fn extract_alias_name(s: &[u8], base: usize, source: &[u8]) -> Bound
-    requires { (0 < count s.now) × (base + count s.now ≤ most_records) }
-    ensures { result ≡ alias_in source.now (record_at s.now base 0) (kids (records base s.now)) }
+// What an alias, the first record of the part, binds: its last name.
+pub fn extract_alias_name(part: &Part, source: &[u8]) -> Option<NameBinding>
+    ensures { result ≡ alias_in source.now (head part.now) (below part.now) }
 {
-    let m = count_of(s);
-    let r = record_at(s, base, 0);
-    let mut last = Bound::Unnamed;
-    let mut i = child_from(s, 1);
+    let m = part.count();
+    let r = part.record_at(0);
+    let mut last = None;
+    let mut i = part.child_from(1);
+    // While, not for: the next child begins where the records of this one end.
     while i < m {
-        last = later(source, r, last, record_at(s, base, i));
-        i = child_from(s, i + 1);
+        last = later(source, r, last, part.record_at(i));
+        i = part.child_from(i + 1);
     }
     last
 }

@@ -11,9 +11,10 @@ ghost use Rattle.enclosing.specs.inner.Climb.{around_bytes, own_list_bytes};
 use clauses::clauses::ScopeList;
 use collection::collection::collect_scope;
 use enclosing::enclosing::collect_around;
+use forest::part::Part;
 use forest::stretch::stretch_of;
-use lent::list::{KEPT_BYTES, Listed, copy_front};
-use lent::verdict::NO_ROOM;
+use lent::list::list_walked;
+use lent::refusal::Refusal;
 use names::bindings::BINDING_BYTES;
 use records::kinds::SUBQUERY_EXPRESSION;
 use records::record::kind_at;
@@ -25,30 +26,25 @@ fn collect_offered(table: &[u8], n: usize, source: &[u8], out: &mut [u8], at: us
     ensures { Written binding_row (offered_in source.now table.now n) out.old at out.new result
         × (result ≤ at + own_list_bytes + around_bytes) }
 {
-    let s = stretch_of(table, n);
-    let next = collect_scope(ScopeList::WithNames, s, n, source, out, at);
+    let part = Part {
+        bytes: stretch_of(table, n),
+        base: n,
+    };
+    let next = collect_scope(ScopeList::WithNames, &part, source, out, at);
     if kind_at(table, n) != SUBQUERY_EXPRESSION {
         return next;
     }
     collect_around(table, n, source, out, next)
 }
 
-// Lists the WITH names that are offered at the root n of a table that is admitted: walked into bytes that are kept aside, and copied from there where they
-// held all of it; a longer list is walked again where it has room.
-pub fn list_offered(table: &[u8], n: usize, source: &[u8], out: &mut [u8]) -> Listed
+// Lists the WITH names that are offered at the root n of a table that is admitted.
+pub fn list_offered(table: &[u8], n: usize, source: &[u8], out: &mut [u8]) -> Result<u32, Refusal>
     requires { ((n < count table.now) × (count table.now ≤ most_records) × (depth_at table.now n ≤ most_depth)) × Climbs table.now }
     ensures { Answers [] binding_row (offered_in source.now table.now n) out.old result out.new }
 {
-    let mut kept = [0u8; KEPT_BYTES];
-    let size = collect_offered(table, n, source, &mut kept, 0);
-    let entries = (size / BINDING_BYTES) as u32;
-    if out.len() < size {
-        return Listed::Refused(NO_ROOM, entries);
-    }
-    if size <= KEPT_BYTES {
-        copy_front(out, &kept, size);
-        return Listed::Entries(entries);
-    }
-    collect_offered(table, n, source, out, 0);
-    Listed::Entries(entries)
+    list_walked(
+        |list| collect_offered(table, n, source, list, 0),
+        BINDING_BYTES,
+        out,
+    )
 }

@@ -7,7 +7,7 @@ use mathlib.Core.Bool.{Bool, true, false, cond}
 use mathlib.Core.List.{List, [], ◌∷◌, ◌++◌}
 use native.Mathlib.Omega.{arith}
 use lib.ListN.{length, length-append}
-use Rattle.lent.specs.declared.verdict.Verdict.TheVariants.{Admitted}
+use Rattle.std.specs.Prelude.{Ok}
 use Rattle.lent.specs.Numbers.{OfBytes}
 use Rattle.lent.specs.Fit32.{AllFit32}
 use Rattle.lent.proofs.Fit32.{fit-lists}
@@ -94,7 +94,7 @@ enclosing-few t n = go (is_subquery (kind_at t n))
 
 -- ---- the names
 
-module _ (src t : List ℕ) (l m : ℕ) (a : Admitted ≡ verdict t l m) where
+module _ (src t : List ℕ) (l m : ℕ) (a : Ok tt ≡ verdict t l m) where
   all_fit : OfBytes t → (n : ℕ) (is : List ℕ) → AllBelow (count t) is → AllFit32 binding_row (seen_of_all src t n is)
   unfolding seen_of_all AllBelow
   all_fit b n [] w = (unfold AllFit32 in tt)

@@ -6,22 +6,22 @@ ghost use Rattle.names.specs.Bindings.{binding_row};
 ghost use Rattle.offers.specs.WithNames.{with_names_at};
 
 use cursor_root::root::root_at;
-use lent::list::Listed;
-use lent::verdict::Verdict;
+use lent::refusal::Refusal;
 use offered::offered::list_offered;
 use table::check::check;
 
 // The WITH names that are offered at the offset: those of the cursor's root, then those that it sees of each enclosing root, nearest first.
-pub fn with_names_at(table: &[u8], source: &[u8], offset: usize, out: &mut [u8]) -> Listed
+pub fn with_names_at(
+    table: &[u8],
+    source: &[u8],
+    offset: usize,
+    out: &mut [u8],
+) -> Result<u32, Refusal>
     ensures { Answers (rules table.now (length source.now) 0) binding_row
         (with_names_at source.now table.now offset)
         out.old result out.new }
 {
-    match check(table, source) {
-        Verdict::Refused(k, d) => Listed::Refused(k, d),
-        Verdict::Admitted => {
-            let root = root_at(table, offset) as usize;
-            list_offered(table, root, source, out)
-        }
-    }
+    check(table, source)?;
+    let root = root_at(table, offset) as usize;
+    list_offered(table, root, source, out)
 }

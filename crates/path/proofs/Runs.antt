@@ -15,6 +15,7 @@ use lib.Dec.{eqb}
 use lib.ListN.{drop}
 use lib.Seq.{drop-drop}
 use Rattle.lent.proofs.Cases.{lt-or-le}
+use Rattle.std.specs.Prelude.{None}
 use Rattle.records.specs.Kinds.{is_node, subquery_expression, join_constraint, update_statement, file, query_list, insert_statement, select_clause, from_clause, join_clause, prewhere_clause, where_clause, group_by_clause, having_clause, order_by_clause, settings_clause, setting_list, engine_clause, format_clause, insert_format_clause, column_definition, column_type_definition, column_codec, data_type, data_type_parameters, function_call, aggregate_function}
 use Rattle.records.specs.Ranges.{spans, holds}
 use Rattle.records.specs.Table.{record_bytes, count, kind_at, depth_at, start_at, end_at, record_at}
@@ -23,7 +24,7 @@ use Rattle.forest.proofs.Laws.{record-tail, rest-kind, count-tail, seeks-start, 
 use Rattle.forest.proofs.Descents.{Down, Level, descent-walk, descent-tail}
 use Rattle.path.specs.declared.gathered.Gathered.{Gathered}
 use Rattle.path.specs.Path.{Next}
-use Rattle.path.specs.inner.Gathered.{settled_by, stepped}
+use Rattle.path.specs.inner.Gathered.{ruling_of, settled_by, stepped}
 use Rattle.path.specs.inner.Plain.{Plain, Run}
 use Rattle.path.specs.inner.Rules.{rule_of}
 use Rattle.path.proofs.Gathers.{or-none}
@@ -33,7 +34,7 @@ use Rattle.path.proofs.Steps.{way}
 other : (k x : ℕ) → Plain k → x ≤ aggregate_function → eqb k x ≡ false
 other k x p h = ne_eqb k x (λ e. omega arith)
 
-plain-none : (k : ℕ) (n : Next) → Plain k → rule_of k n ≡ 0
+plain-none : (k : ℕ) (n : Next) → Plain k → rule_of k n ≡ None
 unfolding rule_of
 plain-none k n p =
     let no : (x : ℕ) → x ≤ aggregate_function → eqb k x ≡ false = λ x h. other k x p h in
@@ -69,7 +70,6 @@ passed g k i =
     record {
       node = i;
       kind = k;
-      ruled = g.ruled;
       ruling = g.ruling;
       statement = g.statement;
       query = g.query;
@@ -81,7 +81,7 @@ and_none true = refl
 and_none false = refl
 
 plain-stepped : (g : Gathered) (k i : ℕ) → Plain g.kind → Plain k → stepped g k i ≡ passed g k i
-unfolding stepped settled_by passed
+unfolding stepped settled_by ruling_of passed
 plain-stepped g k i p q =
     rw (
       plain-none g.kind _ p,

@@ -1,7 +1,6 @@
 -- Document 01, Cursor, "Path": the nodes from record 0 down to an offset, and what stands below one of them.
 -- Definitions only.
-use Rattle.std.specs.Prelude.{ℕ, Bool, false, cond, ◌||◌, true, ◌&&◌, List, [], ◌∷◌, eqb, leb}
-use Rattle.std.proofs.Math.Option.{Option, none, some}
+use Rattle.std.specs.Prelude.{ℕ, Bool, false, cond, ◌||◌, true, ◌&&◌, List, [], ◌∷◌, eqb, leb, Option, None, Some}
 use Rattle.records.specs.declared.record.Rec.{Rec}
 use Rattle.records.specs.Table.{records}
 use Rattle.forest.specs.Descent.{path_of}
@@ -20,11 +19,11 @@ one_of (x ∷ xs) k = eqb k x || one_of xs k
 -- the deepest of a path's nodes whose kind passes a test, or the one that is given
 unfoldable pub deepest_or : Option Rec → (ℕ → Bool) → List Rec → Option Rec
 deepest_or best test [] = best
-deepest_or best test (r ∷ rs) = deepest_or (cond (test r.kind) (some r) best) test rs
+deepest_or best test (r ∷ rs) = deepest_or (cond (test r.kind) (Some r) best) test rs
 
 -- the deepest of a path's nodes whose kind passes a test, or none
 abbrev pub deepest : (ℕ → Bool) → List Rec → Option Rec
-deepest test p = deepest_or none test p
+deepest test p = deepest_or None test p
 
 -- a node of this kind is on the path
 unfoldable pub on_path : ℕ → List Rec → Bool

@@ -24,8 +24,7 @@ pub fn run_down(above: usize, s: &[u8], j: usize, offset: usize) -> usize
     }
     let m = count_of(s);
     let mut k = depth_at(s, j) + 1;
-    let mut i = j;
-    while i + 1 < m {
+    for i in j..m - 1 {
         let next = i + 1;
         if depth_at(s, next) != k {
             return i;
@@ -37,7 +36,6 @@ pub fn run_down(above: usize, s: &[u8], j: usize, offset: usize) -> usize
             return i;
         }
         k += 1;
-        i = next;
     }
-    i
+    m - 1
 }

@@ -1,6 +1,6 @@
-// Which of document 01's path rules speaks of a node. Its numbers are those of contexts/specs/PathRules.antt: 1 is the trailing
-// rule, 14 the last.
-ghost use Rattle.std.specs.Prelude.{◌≡◌, cond};
+// Which of document 01's path rules speaks of a node. contexts/specs/PathRules.antt has them, numbered from 2 to 13: 1 is the
+// trailing rule, 14 the last.
+ghost use Rattle.std.specs.Prelude.{◌≡◌};
 ghost use Rattle.path.specs.Path.{Deepest, Above};
 ghost use Rattle.path.specs.inner.Rules.{rule_of, applies_over};
 
@@ -12,87 +12,75 @@ use records::kinds::{
     TABLE_IDENTIFIER, WHERE_CLAUSE,
 };
 
-pub const NO_RULE: usize = 0;
-
-pub const FROM_RULE: usize = 2;
-
-pub const JOIN_RULE: usize = 3;
-
-pub const INSERT_RULE: usize = 4;
-
-pub const SETTINGS_RULE: usize = 5;
-
-pub const ENGINE_RULE: usize = 6;
-
-pub const FORMAT_RULE: usize = 7;
-
-pub const TYPE_RULE: usize = 8;
-
-pub const DEFINITION_RULE: usize = 9;
-
-pub const CODEC_RULE: usize = 10;
-
-pub const FUNCTION_RULE: usize = 11;
-
-pub const COLUMN_RULE: usize = 12;
-
-pub const START_RULE: usize = 13;
-
-// One of two numbers.
-pub fn chosen(c: bool, new: usize, old: usize) -> usize
-    ensures { result ≡ cond c new old }
-{
-    if c { new } else { old }
+// A path rule, in the document's order.
+#[derive(Clone, Copy)]
+pub enum PathRule {
+    From,
+    Join,
+    Insert,
+    Settings,
+    Engine,
+    Format,
+    DataType,
+    Definition,
+    Codec,
+    Function,
+    Column,
+    Start,
 }
 
 // The rule that speaks of a node of this kind, if it is deepest.
-pub fn rule_by_kind(kind: usize) -> usize
+pub fn rule_by_kind(kind: usize) -> Option<PathRule>
     ensures { result ≡ rule_of kind Deepest }
 {
     match kind {
-        FROM_CLAUSE => FROM_RULE,
-        JOIN_CLAUSE => JOIN_RULE,
-        INSERT_STATEMENT => INSERT_RULE,
-        SETTINGS_CLAUSE => SETTINGS_RULE,
-        SETTING_LIST => SETTINGS_RULE,
-        ENGINE_CLAUSE => ENGINE_RULE,
-        FORMAT_CLAUSE => FORMAT_RULE,
-        INSERT_FORMAT_CLAUSE => FORMAT_RULE,
-        COLUMN_TYPE_DEFINITION => TYPE_RULE,
-        DATA_TYPE => TYPE_RULE,
-        DATA_TYPE_PARAMETERS => TYPE_RULE,
-        COLUMN_DEFINITION => DEFINITION_RULE,
-        COLUMN_CODEC => CODEC_RULE,
-        FUNCTION_CALL => FUNCTION_RULE,
-        AGGREGATE_FUNCTION => FUNCTION_RULE,
-        SELECT_CLAUSE => COLUMN_RULE,
-        PREWHERE_CLAUSE => COLUMN_RULE,
-        WHERE_CLAUSE => COLUMN_RULE,
-        GROUP_BY_CLAUSE => COLUMN_RULE,
-        HAVING_CLAUSE => COLUMN_RULE,
-        ORDER_BY_CLAUSE => COLUMN_RULE,
-        FILE => START_RULE,
-        QUERY_LIST => START_RULE,
-        _ => NO_RULE,
+        FROM_CLAUSE => Some(PathRule::From),
+        JOIN_CLAUSE => Some(PathRule::Join),
+        INSERT_STATEMENT => Some(PathRule::Insert),
+        SETTINGS_CLAUSE => Some(PathRule::Settings),
+        SETTING_LIST => Some(PathRule::Settings),
+        ENGINE_CLAUSE => Some(PathRule::Engine),
+        FORMAT_CLAUSE => Some(PathRule::Format),
+        INSERT_FORMAT_CLAUSE => Some(PathRule::Format),
+        COLUMN_TYPE_DEFINITION => Some(PathRule::DataType),
+        DATA_TYPE => Some(PathRule::DataType),
+        DATA_TYPE_PARAMETERS => Some(PathRule::DataType),
+        COLUMN_DEFINITION => Some(PathRule::Definition),
+        COLUMN_CODEC => Some(PathRule::Codec),
+        FUNCTION_CALL => Some(PathRule::Function),
+        AGGREGATE_FUNCTION => Some(PathRule::Function),
+        SELECT_CLAUSE => Some(PathRule::Column),
+        PREWHERE_CLAUSE => Some(PathRule::Column),
+        WHERE_CLAUSE => Some(PathRule::Column),
+        GROUP_BY_CLAUSE => Some(PathRule::Column),
+        HAVING_CLAUSE => Some(PathRule::Column),
+        ORDER_BY_CLAUSE => Some(PathRule::Column),
+        FILE => Some(PathRule::Start),
+        QUERY_LIST => Some(PathRule::Start),
+        _ => None,
     }
 }
 
 // Does a rule that speaks of the deepest node apply also where a node of this kind is next below?
-fn applies_over(rule: usize, below: usize) -> bool
+fn applies_over(rule: PathRule, below: usize) -> bool
     ensures { result ≡ applies_over rule below }
 {
     match rule {
-        INSERT_RULE => below == TABLE_IDENTIFIER,
-        DEFINITION_RULE => below == ERROR,
-        START_RULE => false,
+        PathRule::Insert => below == TABLE_IDENTIFIER,
+        PathRule::Definition => below == ERROR,
+        PathRule::Start => false,
         _ => true,
     }
 }
 
 // The rule that speaks of a node of this kind, where it applies with a node of that kind next below.
-pub fn rule_over(kind: usize, below: usize) -> usize
+pub fn rule_over(kind: usize, below: usize) -> Option<PathRule>
     ensures { result ≡ rule_of kind (Above below) }
 {
-    let rule = rule_by_kind(kind);
-    chosen(applies_over(rule, below), rule, NO_RULE)
+    let rule = rule_by_kind(kind)?;
+    if applies_over(rule, below) {
+        Some(rule)
+    } else {
+        None
+    }
 }

@@ -9,15 +9,12 @@ ghost use Rattle.contexts.specs.PathRules.{table_reference, column_or, column, j
 
 use contexts::context::CursorContext;
 use function_name::function_name::extract_function_name;
-use path::rules::{
-    CODEC_RULE, COLUMN_RULE, DEFINITION_RULE, ENGINE_RULE, FORMAT_RULE, FROM_RULE, FUNCTION_RULE,
-    INSERT_RULE, JOIN_RULE, SETTINGS_RULE, START_RULE, TYPE_RULE,
-};
+use path::rules::PathRule;
 use readings::function::count_commas_before;
 use readings::last_token::token_before_offset;
 use records::kinds::SELECT_CLAUSE;
 use records::record::kind_at;
-use tokens::last_token::{Name, find_identifier_before_dot, is_join_word};
+use tokens::last_token::{find_identifier_before_dot, is_join_word};
 
 // TableReference, with a prefix after a dot.
 fn table_ref_or_dot(s: &[u8], source: &[u8], offset: usize) -> CursorContext
@@ -37,8 +34,8 @@ fn check_dot_access(s: &[u8], source: &[u8], offset: usize, other: CursorContext
 {
     let two = token_before_offset(s, offset);
     match find_identifier_before_dot(source, two) {
-        Name::Nameless => other,
-        Name::Named(range) => CursorContext::ColumnOfTable { qualifier: range },
+        None => other,
+        Some(range) => CursorContext::ColumnOfTable { qualifier: range },
     }
 }
 
@@ -83,7 +80,7 @@ pub fn rule_context(
     s: &[u8],
     source: &[u8],
     offset: usize,
-    rule: usize,
+    rule: PathRule,
     constrained: bool,
 ) -> CursorContext
     requires { (0 < count s.now) × Ordered s.now }
@@ -91,18 +88,17 @@ pub fn rule_context(
         (kids (records base s.now)) }
 {
     match rule {
-        FROM_RULE => table_ref_or_dot(s, source, offset),
-        JOIN_RULE => join_context(s, source, offset, constrained),
-        INSERT_RULE => table_ref_or_dot(s, source, offset),
-        SETTINGS_RULE => CursorContext::SettingName,
-        ENGINE_RULE => CursorContext::EngineName,
-        FORMAT_RULE => CursorContext::FormatName,
-        TYPE_RULE => CursorContext::DataType,
-        DEFINITION_RULE => CursorContext::DataType,
-        CODEC_RULE => CursorContext::CodecName,
-        FUNCTION_RULE => function_argument(s, offset),
-        COLUMN_RULE => column_context(s, source, offset),
-        START_RULE => CursorContext::StatementStart,
-        _ => CursorContext::Unknown,
+        PathRule::From => table_ref_or_dot(s, source, offset),
+        PathRule::Join => join_context(s, source, offset, constrained),
+        PathRule::Insert => table_ref_or_dot(s, source, offset),
+        PathRule::Settings => CursorContext::SettingName,
+        PathRule::Engine => CursorContext::EngineName,
+        PathRule::Format => CursorContext::FormatName,
+        PathRule::DataType => CursorContext::DataType,
+        PathRule::Definition => CursorContext::DataType,
+        PathRule::Codec => CursorContext::CodecName,
+        PathRule::Function => function_argument(s, offset),
+        PathRule::Column => column_context(s, source, offset),
+        PathRule::Start => CursorContext::StatementStart,
     }
 }

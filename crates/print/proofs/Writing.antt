@@ -10,7 +10,9 @@ use mathlib.Core.Path.{◌≡◌, refl, ap, ◌∙◌}
 use mathlib.Core.Bool.{Bool, true, false, ◌&&◌}
 use mathlib.Core.List.{List, [], ◌∷◌, ◌++◌, map, append_assoc}
 use native.Mathlib.Omega.{arith}
-use native.Mathlib.Nat.{pow-suc, add_assoc, suc-mul, zero-add}
+use native.Mathlib.Nat.{pow-suc, add_assoc, suc-mul, mul-suc, zero-add}
+use native.Mathlib.Numerals.{add-one}
+use Rattle.std.proofs.lemmas.Nat.{mul-le}
 use borrow.Author.Tests.{lt-ltb, le-ltb, ltb-true, ltb-false}
 use lib.Dec.{ltb, eqb}
 use lib.ListN.{length, take, drop, length-append}
@@ -146,19 +148,25 @@ words-split l from (suc n) m =
 
 -- ---- a list's entries
 
-pub entries-more : (k w : ℕ) → 0 < k → k * w ≡ w + (k - 1) * w
-entries-more zero w h = absurd (omega arith)
-entries-more (suc k) w h = let e : suc k - 1 ≡ k = omega arith in rw (e, suc-mul k w) (omega arith)
+-- an entry of w bytes that is among k lies before their end
+pub entry-room : (w i k : ℕ) → i < k → w * i + w ≤ k * w
+entry-room w i k h = let p : suc i * w ≤ k * w = mul-le (suc i) w k w (omega arith) (omega arith) in omega (arith, suc-mul i w)
 
-pub lists-turn : (letter n w : ℕ) (l : List ℕ) (from k : ℕ) {width : ℕ} → width ≡ number_bytes * w → 0 < k
-    → printed_words letter n w l from k ≡ printed letter n (words l from w) ++ printed_words letter n w l (from + width) (k - 1)
+pub lists-turn : (letter n w : ℕ) (l : List ℕ) (i k : ℕ) → i < k
+    → printed_words letter n w l (number_bytes * w * i) (k - i)
+    ≡ printed letter n (words l (number_bytes * w * i) w) ++ printed_words letter n w l (number_bytes * w * (i + 1)) (k - (i + 1))
 unfolding printed_words
-lists-turn letter n w l from zero e h = absurd (omega arith)
-lists-turn letter n w l from (suc k) e h = let q : suc k - 1 ≡ k = omega arith in rw (e, q)
+lists-turn letter n w l i k h =
+    let e : k - i ≡ suc (k - (i + 1)) = omega arith in
+    let q : number_bytes * w * i + number_bytes * w ≡ number_bytes * w * (i + 1) = rw (add-one i, mul-suc (number_bytes * w) i) in
+    rw (e, q)
 
-pub lists-none : (letter n w : ℕ) (l : List ℕ) (from k : ℕ) → k ≡ 0 → printed_words letter n w l from k ≡ []
+pub lists-start : (letter n w : ℕ) (l : List ℕ) (k : ℕ) → printed_words letter n w l (number_bytes * w * 0) (k - 0) ≡ printed_words letter n w l 0 k
+lists-start letter n w l k = let e : number_bytes * w * 0 ≡ 0 = omega arith in let q : k - 0 ≡ k = omega arith in rw (e, q)
+
+pub lists-none : (letter n w : ℕ) (l : List ℕ) (from k i : ℕ) → k ≤ i → printed_words letter n w l from (k - i) ≡ []
 unfolding printed_words
-lists-none letter n w l from k e = rw e
+lists-none letter n w l from k i h = let e : k - i ≡ 0 = omega arith in rw e
 
 -- ---- a list's bytes, read back
 

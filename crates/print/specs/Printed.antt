@@ -1,10 +1,10 @@
 -- Document 01, Worked by hand: the lines that glance prints, and the numbers and ranges in them.
 -- Definitions only.
-use Rattle.std.specs.Prelude.{ℕ, zero, suc, ◌+◌, ◌/◌, ◌%◌, cond, ◌&&◌, List, [], ◌∷◌, ◌++◌, take, drop, ltb, eqb}
+use Rattle.lent.specs.declared.refusal.Refusal.{Refusal}
+use Rattle.lent.specs.Verdicts.{number_of}
+use Rattle.std.specs.Prelude.{ℕ, zero, suc, ◌+◌, ◌/◌, ◌%◌, cond, ◌&&◌, List, [], ◌∷◌, ◌++◌, take, drop, ltb, eqb, Option, Some, None}
 use Rattle.text.specs.Text.{bytes_of}
 use Rattle.records.specs.Ranges.{absent_number}
-use Rattle.statement.specs.declared.statement.Enclosing.{Enclosing}
-use Rattle.statement.specs.declared.statement.Enclosing.TheVariants.{Outside, Record}
 use Rattle.contexts.specs.declared.context.CursorContext.{CursorContext}
 use Rattle.contexts.specs.Context.{coded}
 use Rattle.lines.specs.Lines.{lf}
@@ -80,14 +80,14 @@ context_line c =
     letter_c ∷ field (coded c).number ++ range (coded c).name.start (coded c).name.end ++ field (coded c).index ++ lf ∷ []
 
 -- S: statement record or `-`
-unfoldable pub statement_line : Enclosing → List ℕ
-statement_line Outside = bytes_of "S -" ++ lf ∷ []
-statement_line (Record n) = letter_s ∷ field n ++ lf ∷ []
+unfoldable pub statement_line : Option ℕ → List ℕ
+statement_line None = bytes_of "S -" ++ lf ∷ []
+statement_line (Some n) = letter_s ∷ field n ++ lf ∷ []
 
 -- E ends it
 abbrev pub end_line : List ℕ
 end_line = bytes_of "E" ++ lf ∷ []
 
 -- R: a refusal's number and detail
-abbrev pub refusal_line : ℕ → ℕ → List ℕ
-refusal_line k d = letter_r ∷ field k ++ field d ++ lf ∷ []
+abbrev pub refusal_line : Refusal → List ℕ
+refusal_line r = letter_r ∷ field (number_of r.condition) ++ field r.detail ++ lf ∷ []

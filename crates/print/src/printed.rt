@@ -3,18 +3,22 @@ ghost use Rattle.std.specs.Prelude.{[], ◌∷◌, ◌+◌, ◌*◌, ◌/◌, �
 ghost use Rattle.lent.specs.Fit32.{Fit32};
 ghost use Rattle.lent.specs.Numbers.{word_limit, number_bytes};
 ghost use Rattle.contexts.specs.Context.{context_row};
-ghost use Rattle.statement.specs.declared.statement.Enclosing.TheVariants.{Record};
 ghost use Rattle.print.specs.Printed.{decimal, field, range, fields, ranges, printed, context_line, statement_line, refusal_line};
 ghost use Rattle.print.specs.inner.Writing.{Put, words, printed_words, line_room};
 
 use contexts::context::{CursorContext, code_of};
 use lent::number::{NUMBER_BYTES, word_at};
+use lent::refusal::Refusal;
 use records::range::ABSENT;
 
 // No line is longer: a letter, thirteen numbers of ten digits with a space before each, LF.
 pub const LINE_ROOM: usize = 1 + 13 * 11 + 1;
 
-// Writes a byte and returns where the next goes.
+// The place goes in and out of each function beside the text: a struct of both, whose methods take `&mut self`, would have to ensure of each that it
+// keeps the name of the text that it borrows, besides what is written.
+
+// Writes a byte and returns where the next goes. Each writer takes the buffer and the place, no struct of the two: of them a contract says in one equation
+// what the buffer is at exit.
 fn put_byte(out: &mut [u8], at: usize, b: u8) -> usize
     requires { at < length out.old }
     ensures { Put (b ∷ []) out.old at out.new result }
@@ -28,15 +32,12 @@ pub fn put_text(out: &mut [u8], at: usize, text: &[u8]) -> usize
     requires { at + length text.now ≤ length out.old }
     ensures { Put text.now out.old at out.new result }
 {
-    let mut i = 0;
-    while i < text.len() {
-        out[at + i] = text[i];
-        i += 1;
-    }
-    at + i
+    let next = at + text.len();
+    out[at..next].copy_from_slice(text);
+    next
 }
 
-// Writes a number's digits: those of its tenth, and its last.
+// Writes a number's digits: those of its tenth, and its last. Not by Display: there is no heap, and a lent buffer must say which bytes it got.
 fn put_decimal(out: &mut [u8], at: usize, v: usize) -> usize
     requires { (v < word_limit) × (at + 10 ≤ length out.old) }
     ensures { Put (decimal v) out.old at out.new result }
@@ -75,10 +76,8 @@ fn put_fields(out: &mut [u8], at: usize, list: &[u8], from: usize, n: usize) -> 
     ensures { Put (fields (words list.now from n)) out.old at out.new result × (result ≤ at + 11 * n) }
 {
     let mut next = at;
-    let mut i = 0;
-    while i < n {
+    for i in 0..n {
         next = put_field(out, next, word_at(list, from + NUMBER_BYTES * i));
-        i += 1;
     }
     next
 }
@@ -89,13 +88,11 @@ fn put_ranges(out: &mut [u8], at: usize, list: &[u8], from: usize, n: usize) -> 
     ensures { Put (ranges (words list.now from (n + n))) out.old at out.new result × (result ≤ at + 22 * n) }
 {
     let mut next = at;
-    let mut i = 0;
-    while i < n {
+    for i in 0..n {
         let byte = from + 2 * NUMBER_BYTES * i;
         let start = word_at(list, byte);
         let end = word_at(list, byte + NUMBER_BYTES);
         next = put_range(out, next, start, end);
-        i += 1;
     }
     next
 }
@@ -134,12 +131,8 @@ pub fn put_list(
 {
     let width = NUMBER_BYTES * (n + (m + m));
     let mut next = at;
-    let mut from = 0;
-    let mut left = k;
-    while 0 < left {
-        next = put_line(out, next, letter, list, from, n, m);
-        from += width;
-        left -= 1;
+    for i in 0..k {
+        next = put_line(out, next, letter, list, width * i, n, m);
     }
     next
 }
@@ -161,7 +154,7 @@ pub fn put_code(out: &mut [u8], at: usize, c: CursorContext) -> usize
 // Writes the line of a statement that was found.
 pub fn put_found(out: &mut [u8], at: usize, found: u32) -> usize
     requires { at + line_room ≤ length out.old }
-    ensures { Put (statement_line (Record found)) out.old at out.new result × (result ≤ at + line_room) }
+    ensures { Put (statement_line (Some found)) out.old at out.new result × (result ≤ at + line_room) }
 {
     let first = put_byte(out, at, b'S');
     let second = put_field(out, first, found as usize);
@@ -169,12 +162,12 @@ pub fn put_found(out: &mut [u8], at: usize, found: u32) -> usize
 }
 
 // Writes the line of a refusal.
-pub fn put_refusal(out: &mut [u8], number: u32, detail: u32) -> usize
+pub fn put_refusal(out: &mut [u8], r: Refusal) -> usize
     requires { line_room ≤ length out.old }
-    ensures { Put (refusal_line number detail) out.old 0 out.new result × (result ≤ line_room) }
+    ensures { Put (refusal_line r) out.old 0 out.new result × (result ≤ line_room) }
 {
     let first = put_byte(out, 0, b'R');
-    let second = put_field(out, first, number as usize);
-    let third = put_field(out, second, detail as usize);
+    let second = put_field(out, first, r.condition.number() as usize);
+    let third = put_field(out, second, r.detail as usize);
     put_byte(out, third, b'\n')
 }

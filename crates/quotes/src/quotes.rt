@@ -3,7 +3,7 @@ ghost use Rattle.std.specs.Prelude.{◌≡◌};
 ghost use Rattle.quotes.specs.Quotes.{byte_at, is_mark, unquoted, name_of, absent_name};
 
 use records::kinds::QUOTED_IDENTIFIER;
-use records::range::{Range, no_range, span_of};
+use records::range::{Range, no_range};
 use records::record::Rec;
 
 // A name's two ranges: with its quotes, and without.
@@ -17,24 +17,21 @@ pub struct NameRanges {
 fn byte_at(source: &[u8], i: usize) -> u8
     ensures { result ≡ byte_at source.now i }
 {
-    if i < source.len() { source[i] } else { 0 }
+    source.get(i).copied().unwrap_or(0)
 }
 
 // A backtick or a double quote.
 fn is_mark(b: u8) -> bool
     ensures { result ≡ is_mark b }
 {
-    (b == b'`') | (b == b'"')
+    matches!(b, b'`' | b'"')
 }
 
 // Strips a matching pair of backticks or double quotes.
 fn unquote(source: &[u8], start: usize, end: usize) -> Range
     ensures { result ≡ unquoted source.now start end }
 {
-    if end < start {
-        return Range { start, end };
-    }
-    if end - start < 2 {
+    if end.saturating_sub(start) < 2 {
         return Range { start, end };
     }
     let mark = byte_at(source, start);
@@ -53,7 +50,7 @@ fn unquote(source: &[u8], start: usize, end: usize) -> Range
 pub fn name_of(source: &[u8], t: Rec) -> NameRanges
     ensures { result ≡ name_of source.now t }
 {
-    let outer = span_of(t);
+    let outer = Range::from(t);
     if t.kind != QUOTED_IDENTIFIER {
         return NameRanges {
             outer,

@@ -5,7 +5,9 @@ use mathlib.Core.Path.{◌≡◌, refl, sym, ◌∙◌}
 use mathlib.Core.Bool.{Bool, true, false, cond}
 use mathlib.Core.List.{List, [], ◌∷◌}
 use native.Mathlib.Omega.{arith}
-use borrow.Author.Tests.{leb-true, leb-false, ne_eqb}
+use borrow.Author.Tests.{leb-true, leb-false}
+use Rattle.std.specs.Prelude.{Option, None, Some, IfSome}
+use Rattle.records.specs.declared.range.Range.{Range}
 use Rattle.records.specs.declared.record.Rec.{Rec}
 use Rattle.records.specs.Kinds.{is_node, last_node}
 use Rattle.records.specs.Table.{count, kind_at, depth_at, start_at, end_at, record_at, records}
@@ -14,8 +16,6 @@ use Rattle.forest.specs.inner.Scan.{Reading, of_tokens}
 use Rattle.forest.specs.Descent.{along}
 use Rattle.forest.proofs.Scans.{tokens_none, tokens-start}
 use Rattle.forest.proofs.Walking.{Sweeps, sweeps-token, sweeps-node}
-use Rattle.tokens.specs.declared.last_token.Name.{Name}
-use Rattle.tokens.specs.declared.last_token.Name.TheVariants.{Nameless}
 use Rattle.tokens.specs.declared.last_token.LastTwo.{LastTwo}
 use Rattle.tokens.specs.declared.sought.Sought.{Sought}
 use Rattle.tokens.specs.declared.sought.Sought.TheVariants.{LastToken, ArgumentIndex}
@@ -64,23 +64,32 @@ module _ {x : Sought} {o : ℕ} {t : List ℕ} {k m i : ℕ} {w : Findings} (l :
 
 -- ---- the numbers that the loop carries
 
-pub meant-nothing : (t : List ℕ) {w : Swept} → w ≡ record { last = 0; before = 0; arguments = record { met = false; index = 0 } } → meant t w ≡ nothing_found
+-- a number that there may be, among more
+pub among-more : (o : Option ℕ) {a b : ℕ} → a ≤ b → IfSome o (λ n. n < a) → IfSome o (λ n. n < b)
+among-more None h p = tt
+among-more (Some n) h p = omega arith
+
+-- and one up to a number
+pub up-to : (o : Option ℕ) (a : ℕ) → IfSome o (λ n. n ≤ a) → IfSome o (λ n. n < a + 1)
+up-to None a p = tt
+up-to (Some n) a p = omega arith
+
+pub meant-nothing : (t : List ℕ) {w : Swept} → w ≡ record { last = None; before = None; arguments = None } → meant t w ≡ nothing_found
 unfolding meant token_of
 meant-nothing t e = rw e
 
-moved : (x : Sought) (t : List ℕ) (i : ℕ) (w : Swept) (kind : ℕ) → 1 ≤ i
-    → meant t (moved_to x w kind i) ≡ turned x (meant t w) kind (start_at t i) (end_at t i)
+moved : (x : Sought) (t : List ℕ) (i : ℕ) (w : Swept) (kind : ℕ) → meant t (moved_to x w kind i) ≡ turned x (meant t w) kind (start_at t i) (end_at t i)
 unfolding meant token_of name_at moved_to turned
-moved LastToken t i w kind h = rw (ne_eqb i 0 (λ e. omega arith))
-moved ArgumentIndex t i w kind h = refl
+moved LastToken t i w kind = refl
+moved ArgumentIndex t i w kind = refl
 
-pub meant-turn : (x : Sought) (o : ℕ) (t : List ℕ) (i : ℕ) (w : Swept) (kind : ℕ) {start : ℕ} {w' : Swept} → 1 ≤ i → start ≡ start_at t i
+pub meant-turn : (x : Sought) (o : ℕ) (t : List ℕ) (i : ℕ) (w : Swept) (kind : ℕ) {start : ℕ} {w' : Swept} → start ≡ start_at t i
     → w' ≡ cond (counts_for x o kind start) (moved_to x w kind i) w
     → meant t w' ≡ cond (counts_for x o kind start) (turned x (meant t w) kind start (end_at t i)) (meant t w)
-meant-turn x o t i w kind h e q = rw (q, e) (go (counts_for x o kind (start_at t i)))
+meant-turn x o t i w kind e q = rw (q, e) (go (counts_for x o kind (start_at t i)))
   where
     go : (b : Bool) → meant t (cond b (moved_to x w kind i) w) ≡ cond b (turned x (meant t w) kind (start_at t i) (end_at t i)) (meant t w)
-    go true = moved x t i w kind h
+    go true = moved x t i w kind
     go false = refl
 
 -- ---- the last two tokens
@@ -88,15 +97,15 @@ meant-turn x o t i w kind h e q = rw (q, e) (go (counts_for x o kind (start_at t
 abbrev next : LastTwo → Rec → LastTwo
 next two r = pushed two r.start r.end
 
-two_from : (l : List Rec) (r : Rec) (b : Name) → along next (record { last = named r; before = b }) l ≡ record { last = last_or (named r) l; before = last_or b (init (r ∷ l)) }
+two_from : (l : List Rec) (r : Rec) (b : Option Range) → along next (record { last = named r; before = b }) l ≡ record { last = last_or (named r) l; before = last_or b (init (r ∷ l)) }
 unfolding along last_or init
 two_from [] r b = refl
 two_from (q ∷ l) r b = two_from l q (named r)
 
-two-along : (l : List Rec) → along next nothing_found.two l ≡ record { last = last_or Nameless l; before = last_or Nameless (init l) }
+two-along : (l : List Rec) → along next nothing_found.two l ≡ record { last = last_or None l; before = last_or None (init l) }
 unfolding along last_or init
 two-along [] = refl
-two-along (r ∷ l) = two_from l r Nameless
+two-along (r ∷ l) = two_from l r None
 
 along-two : (l : List Rec) (w : Findings) → (along (step LastToken) w l).two ≡ along next w.two l
 unfolding along turned

@@ -1,5 +1,5 @@
 // The last token at an offset.
-ghost use Rattle.std.specs.Prelude.{◌≡◌, ℕ, ◌-◌, ◌≤◌};
+ghost use Rattle.std.specs.Prelude.{◌≡◌, ℕ, ◌<◌, IfSome};
 ghost use Rattle.records.specs.Table.{count, records};
 ghost use Rattle.forest.specs.Forest.{kids};
 ghost use Rattle.forest.specs.inner.Ordered.{Ordered};
@@ -7,18 +7,16 @@ ghost use Rattle.tokens.specs.LastToken.{last_two};
 ghost use Rattle.tokens.specs.inner.Turns.{token_of};
 
 use crate::sweep::sweep;
-use tokens::last_token::{LastTwo, Name, token_at};
+use records::range::Range;
+use tokens::last_token::{LastTwo, token_at};
 use tokens::sought::Sought;
 
-// The token of this number, 0 for none.
-fn token_of(s: &[u8], i: usize) -> Name
-    requires { i ≤ count s.now - 1 }
+// The token of this number, if there is one.
+fn token_of(s: &[u8], i: Option<usize>) -> Option<Range>
+    requires { IfSome i (λ n. n < count s.now) }
     ensures { result ≡ token_of s.now i }
 {
-    if i == 0 {
-        return Name::Nameless;
-    }
-    token_at(s, i)
+    Some(token_at(s, i?))
 }
 
 // The last token at or before the offset below the first record of the stretch s, and the one before it.

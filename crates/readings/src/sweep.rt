@@ -1,5 +1,5 @@
 // The reading of a stretch's tokens in document order: one loop, for whatever is sought of them.
-ghost use Rattle.std.specs.Prelude.{◌≡◌, ℕ, ◌-◌, ◌≤◌};
+ghost use Rattle.std.specs.Prelude.{◌≡◌, ℕ, ◌<◌, IfSome};
 ghost use Rattle.records.specs.Table.{count, records};
 ghost use Rattle.forest.specs.Forest.{kids};
 ghost use Rattle.forest.specs.inner.Ordered.{Ordered};
@@ -8,18 +8,14 @@ ghost use Rattle.tokens.specs.inner.Turns.{meant, swept};
 use forest::stretch::reach_below;
 use records::kinds::is_node;
 use records::record::{count_of, depth_at, end_at, kind_at, start_at};
-use tokens::function::Arguments;
 use tokens::sought::{Sought, Swept};
 use turns::turns::{enters, turn};
 
 // Nothing is read yet.
 const NOTHING_READ: Swept = Swept {
-    last: 0,
-    before: 0,
-    arguments: Arguments {
-        met: false,
-        index: 0,
-    },
+    last: None,
+    before: None,
+    arguments: None,
 };
 
 // What is sought, below the first record of the stretch s. `reach` is how deep the next record may be, so that what stands
@@ -28,7 +24,7 @@ const NOTHING_READ: Swept = Swept {
 pub fn sweep(s: &[u8], offset: usize, sought: Sought) -> Swept
     requires { Ordered s.now }
     ensures { ((base : ℕ) → meant s.now result ≡ swept sought offset (kids (records base s.now)))
-        × (result.last ≤ count s.now - 1) × (result.before ≤ count s.now - 1) }
+        × IfSome result.last (λ i. i < count s.now) × IfSome result.before (λ i. i < count s.now) }
 {
     let mut w = NOTHING_READ;
     let m = count_of(s);
@@ -37,8 +33,7 @@ pub fn sweep(s: &[u8], offset: usize, sought: Sought) -> Swept
     }
     let k = depth_at(s, 0) + 1;
     let mut reach = k;
-    let mut i = 1;
-    while i < m {
+    for i in 1..m {
         let d = depth_at(s, i);
         if d < k {
             return w;
@@ -48,18 +43,14 @@ pub fn sweep(s: &[u8], offset: usize, sought: Sought) -> Swept
         if !is_node(kind) {
             if offset < start {
                 return w;
-            } else if reach < d {
-                i += 1;
-            } else {
-                w = turn(sought, offset, w, kind, start, i);
-                reach = d;
-                i += 1;
             }
-        } else if reach < d {
-            i += 1;
-        } else {
+            if reach < d {
+                continue;
+            }
+            w = turn(sought, offset, w, kind, start, i);
+            reach = d;
+        } else if d <= reach {
             reach = reach_below(d, enters(sought, offset, kind, start, end_at(s, i)));
-            i += 1;
         }
     }
     w

@@ -11,6 +11,9 @@ use native.Mathlib.Nat.{zero-add}
 use native.Mathlib.Omega.{arith}
 use borrow.Author.Tests.{lt-ltb, le-ltb, ne_eqb}
 use lib.Dec.{eqb, ltb}
+use Rattle.std.specs.Prelude.{Option, Some, None}
+use Rattle.lent.specs.declared.refusal.Condition.TheVariants.{UnlistedKind, Misplaced, TooDeep}
+use Rattle.lent.specs.declared.refusal.Condition.{Condition}
 use Rattle.lent.proofs.Cases.{lt-or-le}
 use Rattle.records.specs.Kinds.{is_token}
 use Rattle.records.specs.Table.{kind_at, depth_at, record_at}
@@ -45,8 +48,8 @@ place_at t (suc i) =
     regroup false b c = refl
 
 -- the first of 3, 4 and 5, of the three conditions
-abbrev pub early : Bool → Bool → Bool → ℕ
-early p q r = cond p 3 (cond q 4 (cond r 5 0))
+abbrev pub early : Bool → Bool → Bool → Option Condition
+early p q r = cond p (Some UnlistedKind) (cond q (Some Misplaced) (cond r (Some TooDeep) None))
 
 pub misfit-at : (t : List ℕ) (i : ℕ) → misfit_of (known_at t i) (record_at t 0 i) ≡ early (unlisted t i) (misplaced t i) (too_deep t i)
 unfolding misfit_of strange record_at

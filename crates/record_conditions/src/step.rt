@@ -4,7 +4,7 @@ ghost use Rattle.lent.specs.Numbers.{word_limit};
 ghost use Rattle.records.specs.Table.{count, parent_at};
 ghost use Rattle.record_conditions.specs.inner.Step.{after, strange, out_of_place, off_source, misfit_of};
 
-use conditions::refusal::{MISPLACED, TOO_DEEP, UNLISTED_KIND};
+use lent::refusal::Condition;
 use records::kinds::{is_node, is_token};
 use records::record::{Rec, parent_at};
 
@@ -72,18 +72,18 @@ pub fn after(b: Known, r: Rec) -> Known
     }
 }
 
-// The first of 3, 4 and 5 that the record r breaks; 0 where it breaks none.
-pub fn misfit(b: Known, r: Rec) -> u32
+// The first of 3, 4 and 5 that the record r breaks.
+pub fn misfit(b: Known, r: Rec) -> Option<Condition>
     ensures { result ≡ misfit_of b r }
 {
     if strange(r.kind) {
-        return UNLISTED_KIND;
+        return Some(Condition::UnlistedKind);
     }
     if out_of_place(b, r) {
-        return MISPLACED;
+        return Some(Condition::Misplaced);
     }
     if MOST_DEPTH < r.depth {
-        return TOO_DEEP;
+        return Some(Condition::TooDeep);
     }
-    0
+    None
 }

@@ -1,4 +1,5 @@
-// The kinds of records, by document 01's numbers under the Rust's names.
+// The kinds of records, by document 01's numbers under the Rust's names. Numbers, not an enum: a kind is what four lent bytes say, any number is a kind (most
+// are other nodes), and every definition compares that number, so an enum would need a case that holds it and a reading of it at each comparison.
 ghost use Rattle.std.specs.Prelude.{◌≡◌};
 ghost use Rattle.records.specs.Kinds.{is_node, is_token};
 

@@ -8,7 +8,7 @@ use crate::kinds::is_node;
 use crate::record::{Rec, end_at, kind_at, start_at};
 use lent::number::WORD_LIMIT;
 
-// The start and the end of an absent range.
+// The start and the end of an absent range. Not an Option: document 01 writes it as these numbers in the entries that C reads, and the definitions with it.
 pub const ABSENT: usize = WORD_LIMIT - 1;
 
 // The bytes of the source from start up to end.
@@ -29,12 +29,14 @@ pub fn no_range() -> Range
 }
 
 // The range of a record.
-pub fn span_of(r: Rec) -> Range
-    ensures { result ≡ span r }
-{
-    Range {
-        start: r.start,
-        end: r.end,
+impl From<Rec> for Range {
+    ghost from_gives = { λ r x. x ≡ span r };
+
+    fn from(r: Rec) -> Range {
+        Range {
+            start: r.start,
+            end: r.end,
+        }
     }
 }
 

@@ -7,13 +7,12 @@ use mathlib.Core.List.{List, [], ◌∷◌}
 use native.Mathlib.Omega.{arith}
 use borrow.Author.Tests.{le-leb, lt-leb}
 use lib.Dec.{leb}
+use Rattle.std.specs.Prelude.{Option, Some, None}
 use Rattle.records.specs.declared.record.Rec.{Rec}
 use Rattle.records.specs.Kinds.{last_node}
 use Rattle.forest.specs.Forest.{Forest, nil, token, node}
 use Rattle.quotes.specs.declared.quotes.NameRanges.{NameRanges}
 use Rattle.references.specs.declared.pending.TableRef.{TableRef}
-use Rattle.references.specs.declared.pending.Pending.{Pending}
-use Rattle.references.specs.declared.pending.Pending.TheVariants.{Nothing, Held}
 use Rattle.names.specs.Names.{is_part, direct}
 use Rattle.quotes.specs.Quotes.{name_of, absent_name}
 use Rattle.references.specs.References.{fresh}
@@ -21,15 +20,15 @@ use Rattle.references.specs.inner.Pending.{pends}
 use Rattle.names.proofs.NameLaws.{direct-yes, direct-no, direct-node, part-node}
 
 -- the reference of name node x after n parts, of which d and t are the last two, with these parts to come
-unfoldable pub shifted : List ℕ → ℕ → ℕ → NameRanges → NameRanges → List Rec → Pending
-shifted src x n d t [] = cond (leb 1 n && leb n 2) (Held (record { «record» = x; database = d; table = t; alias = absent_name })) Nothing
+unfoldable pub shifted : List ℕ → ℕ → ℕ → NameRanges → NameRanges → List Rec → Option TableRef
+shifted src x n d t [] = cond (leb 1 n && leb n 2) (Some (record { «record» = x; database = d; table = t; alias = absent_name })) None
 shifted src x n d t (p ∷ ps) = shifted src x (n + 1) t (name_of src p) ps
 
 -- the same with the children to come
-abbrev pub shifted_in : List ℕ → ℕ → ℕ → NameRanges → NameRanges → Forest → Pending
+abbrev pub shifted_in : List ℕ → ℕ → ℕ → NameRanges → NameRanges → Forest → Option TableRef
 shifted_in src x n d t f = shifted src x n d t (direct is_part f)
 
-many : (src : List ℕ) (x n : ℕ) (d t : NameRanges) (ps : List Rec) → 2 < n → shifted src x n d t ps ≡ Nothing
+many : (src : List ℕ) (x n : ℕ) (d t : NameRanges) (ps : List Rec) → 2 < n → shifted src x n d t ps ≡ None
 unfolding shifted
 many src x n d t [] h = rw (le-leb 1 n (omega arith), lt-leb n 2 h)
 many src x n d t (p ∷ ps) h = many src x (n + 1) t (name_of src p) ps (omega arith)
@@ -55,15 +54,15 @@ module _ (src : List ℕ) (x n : ℕ) (d t : NameRanges) where
   pub shifted-over : (p : Rec) (b f : Forest) → shifted_in src x n d t (node p b f) ≡ shifted_in src x n d t f
   shifted-over p b f = rw (direct-node is_part p b f)
 
-  pub shifted_none : n ≡ 0 → Nothing ≡ shifted_in src x n d t nil
+  pub shifted_none : n ≡ 0 → None ≡ shifted_in src x n d t nil
   unfolding shifted direct
   shifted_none h = rw (lt-leb 1 n (omega arith))
 
-  pub shifted-many : 2 < n → Nothing ≡ shifted_in src x n d t nil
+  pub shifted-many : 2 < n → None ≡ shifted_in src x n d t nil
   shifted-many h = sym (many src x n d t _ h)
 
   pub shifted-held : {a : NameRanges} → (n ≡ 0 → ⊥) → n ≤ 2 → a ≡ absent_name
-      → Held (record { «record» = x; database = d; table = t; alias = a }) ≡ shifted_in src x n d t nil
+      → Some (record { «record» = x; database = d; table = t; alias = a }) ≡ shifted_in src x n d t nil
   unfolding shifted direct
   shifted-held z h e = rw (le-leb 1 n (omega arith), le-leb n 2 h, e)
 
@@ -78,7 +77,7 @@ one_or_two n (p ∷ ps) = one_or_two (n + 1) ps
 abbrev pub one_or_two_in : ℕ → Forest → Bool
 one_or_two_in n f = one_or_two n (direct is_part f)
 
-held-pends : (b : Bool) (t : TableRef) → pends (cond b (Held t) Nothing) ≡ b
+held-pends : (b : Bool) (t : TableRef) → pends (cond b (Some t) None) ≡ b
 held-pends true t = refl
 held-pends false t = refl
 
@@ -88,7 +87,7 @@ shifted-pends src x n d t [] = held-pends (leb 1 n && leb n 2) _
 shifted-pends src x n d t (p ∷ ps) = shifted-pends src x (n + 1) t (name_of src p) ps
 
 pub parts-fresh : (src : List ℕ) (x : ℕ) (ps : List Rec) → one_or_two 0 ps ≡ pends (fresh src x ps)
-parts-fresh src x ps = sym (shifted-pends src x 0 absent_name absent_name ps) ∙ ap (λ (p : Pending). pends p) (shifted-fresh src x ps)
+parts-fresh src x ps = sym (shifted-pends src x 0 absent_name absent_name ps) ∙ ap (λ (p : Option TableRef). pends p) (shifted-fresh src x ps)
 
 module _ (n : ℕ) where
   pub parts-part : (p : Rec) (f : Forest) → is_part p ≡ true → one_or_two_in n (token p f) ≡ one_or_two_in (n + 1) f

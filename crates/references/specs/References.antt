@@ -1,21 +1,19 @@
 -- The reference of a table name, and its entry.
 -- src is the source's bytes.
 -- Definitions only.
-use Rattle.std.specs.Prelude.{ℕ, ◌*◌, List, [], ◌∷◌, ◌++◌}
+use Rattle.std.specs.Prelude.{ℕ, ◌*◌, List, [], ◌∷◌, ◌++◌, Option, Some, None}
 use Rattle.records.specs.declared.record.Rec.{Rec}
 use Rattle.quotes.specs.declared.quotes.NameRanges.{NameRanges}
 use Rattle.references.specs.declared.pending.TableRef.{TableRef}
-use Rattle.references.specs.declared.pending.Pending.{Pending}
-use Rattle.references.specs.declared.pending.Pending.TheVariants.{Nothing, Held}
 use Rattle.quotes.specs.Quotes.{name_of, absent_name}
 use Rattle.lent.specs.Numbers.{number_bytes}
 
 -- the reference of name node x by its parts. One: table; two: database, table; else none
-unfoldable pub fresh : List ℕ → ℕ → List Rec → Pending
-fresh src x [] = Nothing
-fresh src x (t ∷ []) = Held (record { «record» = x; database = absent_name; table = name_of src t; alias = absent_name })
-fresh src x (d ∷ t ∷ []) = Held (record { «record» = x; database = name_of src d; table = name_of src t; alias = absent_name })
-fresh src x (d ∷ t ∷ u ∷ more) = Nothing
+unfoldable pub fresh : List ℕ → ℕ → List Rec → Option TableRef
+fresh src x [] = None
+fresh src x (t ∷ []) = Some (record { «record» = x; database = absent_name; table = name_of src t; alias = absent_name })
+fresh src x (d ∷ t ∷ []) = Some (record { «record» = x; database = name_of src d; table = name_of src t; alias = absent_name })
+fresh src x (d ∷ t ∷ u ∷ more) = None
 
 -- a name: its outer range, then its inner one
 abbrev pub name_row : NameRanges → List ℕ

@@ -1,16 +1,13 @@
 // A reference, and what a table name gives: the pending reference of a table reading.
-ghost use Rattle.std.specs.Prelude.{◌≡◌, List, ℕ, ◌+◌, ◌≤◌, ◌<◌};
-ghost use Rattle.records.specs.Table.{count, records};
-ghost use Rattle.forest.specs.Forest.{kids};
-ghost use Rattle.conditions.specs.Conditions.{most_records};
+ghost use Rattle.std.specs.Prelude.{◌≡◌, List, ℕ};
+ghost use Rattle.forest.specs.Parts.{below};
 ghost use Rattle.names.specs.Names.{is_part, direct};
 ghost use Rattle.references.specs.References.{fresh};
 ghost use Rattle.references.specs.inner.Pending.{pends};
 
-use forest::stretch::child_from;
+use forest::part::Part;
 use names::names::is_part;
 use quotes::quotes::{NameRanges, name_of, no_name};
-use records::record::{count_of, record_at};
 
 // A table reference in FROM or JOIN.
 #[derive(Clone, Copy)]
@@ -21,63 +18,57 @@ pub struct TableRef {
     pub alias: NameRanges,
 }
 
-// The pending reference of a table reading.
-#[derive(Clone, Copy)]
-pub enum Pending {
-    Nothing,
-    Held(TableRef),
-}
-
-// The reference of a table name, the first record of the stretch s: of one part or two, else none.
-pub fn extract_table_identifier(s: &[u8], base: usize, source: &[u8]) -> Pending
-    requires { (0 < count s.now) × (base + count s.now ≤ most_records) }
-    ensures { result ≡ fresh source.now base (direct is_part (kids (records base s.now))) }
+// The reference of a table name, the first record of the part: of one part or two, else none.
+pub fn extract_table_identifier(part: &Part, source: &[u8]) -> Option<TableRef>
+    ensures { result ≡ fresh source.now part.now.base (direct is_part (below part.now)) }
 {
-    let m = count_of(s);
+    let m = part.count();
     let mut parts: usize = 0;
     let mut database = no_name();
     let mut table = no_name();
-    let mut i = child_from(s, 1);
+    let mut i = part.child_from(1);
+    // While, not for: the next child begins where the records of this one end.
     while i < m {
-        let t = record_at(s, base, i);
+        let t = part.record_at(i);
         if is_part(t) {
             parts += 1;
             database = table;
             table = name_of(source, t);
-            i = child_from(s, i + 1);
+            i = part.child_from(i + 1);
         } else {
-            i = child_from(s, i + 1);
+            i = part.child_from(i + 1);
         }
     }
     if parts == 0 {
-        return Pending::Nothing;
+        return None;
     }
     if 2 < parts {
-        return Pending::Nothing;
+        return None;
     }
-    Pending::Held(TableRef {
-        record: base,
+    Some(TableRef {
+        record: part.base,
         database,
         table,
         alias: no_name(),
     })
 }
 
-// Does a table name, the first record of the stretch s, give a reference: has it one part or two?
-pub fn gives_reference(s: &[u8], base: usize) -> bool
-    requires { (0 < count s.now) × (base + count s.now ≤ most_records) }
-    ensures { (src : List ℕ) → result ≡ pends (fresh src base (direct is_part (kids (records base s.now)))) }
+// Does a table name, the first record of the part, give a reference: has it one part or two? Not by extract_table_identifier: it reads
+// both names too, which the list of aliases does not ask for.
+pub fn gives_reference(part: &Part) -> bool
+    ensures { (src : List ℕ) → result ≡ pends (fresh src part.now.base (direct is_part (below part.now))) }
 {
-    let m = count_of(s);
+    let m = part.count();
     let mut parts: usize = 0;
-    let mut i = child_from(s, 1);
+    let mut i = part.child_from(1);
+    // While, not for: the next child begins where the records of this one end.
     while i < m {
-        let t = record_at(s, base, i);
+        let t = part.record_at(i);
         if is_part(t) {
             parts += 1;
-            i = child_from(s, i + 1);
+            i = part.child_from(i + 1);
         } else {
-            i = child_from(s, i + 1);
+            i = part.child_from(i + 1);
         }
     }
     (1 <= parts) & (parts <= 2)

@@ -15,9 +15,10 @@ use borrow.Author.Tests.{ltb-false, eq-eqb, ne_eqb}
 use lib.Dec.{eqb}
 use lib.ListN.{length, get_or, set, replicate, length-set}
 use lib.Seq.{get_or-set_same, get_or-set_other}
-use Rattle.lent.specs.declared.verdict.Verdict.{Verdict}
-use Rattle.lent.specs.declared.verdict.Verdict.TheVariants.{Admitted, Refused}
-use Rattle.lent.specs.Verdicts.{first}
+use Rattle.lent.specs.declared.refusal.Condition.{Condition}
+use Rattle.std.specs.Prelude.{Ok, Option, Some, None}
+use Rattle.lent.specs.declared.refusal.Condition.TheVariants.{UnlistedKind, Misplaced, TooDeep, BadSpan, WrongParent}
+use Rattle.lent.specs.Verdicts.{first, Verdict, refused}
 use Rattle.lent.proofs.Cases.{eq-or-not}
 use Rattle.records.specs.declared.record.Rec.{Rec}
 use Rattle.records.specs.Table.{count, depth_at, parent_at, record_at}
@@ -29,18 +30,18 @@ use Rattle.refusals.specs.ByRecord.{rules_from}
 
 -- the verdict on record i by 3, 4 and 5, where it is `on` by the rules behind
 abbrev told : ℕ → Bool → Bool → Bool → Verdict → Verdict
-told i p q r on = cond p (Refused 3 i) (cond q (Refused 4 i) (cond r (Refused 5 i) on))
+told i p q r on = cond p (refused UnlistedKind i) (cond q (refused Misplaced i) (cond r (refused TooDeep i) on))
 
-told-early : (i : ℕ) (p q r : Bool) (on : Verdict) → (early p q r ≡ 0 → ⊥) → told i p q r on ≡ Refused (early p q r) i
-told-early i true q r on h = refl
-told-early i false true r on h = refl
-told-early i false false true on h = refl
-told-early i false false false on h = absurd (h refl)
+told-early : (i : ℕ) (p q r : Bool) (on : Verdict) {c : Condition} → early p q r ≡ Some c → told i p q r on ≡ refused c i
+told-early i true q r on h = cc
+told-early i false true r on h = cc
+told-early i false false true on h = cc
+told-early i false false false on h = absurd (let z : ◌≡◌ {A = ℕ} 0 1 = cc in omega arith)
 
-told-on : (i : ℕ) (p q r : Bool) (on : Verdict) → early p q r ≡ 0 → (told i p q r on ≡ on) × (r ≡ false)
-told-on i true q r on e = absurd (omega arith)
-told-on i false true r on e = absurd (omega arith)
-told-on i false false true on e = absurd (omega arith)
+told-on : (i : ℕ) (p q r : Bool) (on : Verdict) → early p q r ≡ None → (told i p q r on ≡ on) × (r ≡ false)
+told-on i true q r on e = absurd (let z : ◌≡◌ {A = ℕ} 0 1 = cc in omega arith)
+told-on i false true r on e = absurd (let z : ◌≡◌ {A = ℕ} 0 1 = cc in omega arith)
+told-on i false false true on e = absurd (let z : ◌≡◌ {A = ℕ} 0 1 = cc in omega arith)
 told-on i false false false on e = (refl, refl)
 
 -- what the check carries along of parents: at each depth, the last record whose depth is one less
@@ -82,7 +83,7 @@ unfolding known_at deepest_next last_end
 checking-start t n = let e : count t - 0 ≡ count t = omega arith in record { known = refl; parents = parents-start t; left = rw e }
 
 module _ {t : List ℕ} {n i : ℕ} {b : Known} {above : List ℕ} {v : Verdict} (w : Checking t n i b above v) where
-  pub checking-end : count t ≤ i → Admitted ≡ v
+  pub checking-end : count t ≤ i → Ok tt ≡ v
   unfolding rules_from
   checking-end h = let e : count t - i ≡ 0 = omega arith in sym (w.left ∙ rw e)
 
@@ -92,7 +93,7 @@ module _ {t : List ℕ} {n i : ℕ} {b : Known} {above : List ℕ} {v : Verdict}
     abbrev on : Verdict
     on = first (rules_from t n (suc i) (count t - (i + 1)))
 
-    turn : v ≡ told i (unlisted t i) (misplaced t i) (too_deep t i) (cond (wrong_parent t i) (Refused 12 i) (cond (bad_span t n i) (Refused 6 i) on))
+    turn : v ≡ told i (unlisted t i) (misplaced t i) (too_deep t i) (cond (wrong_parent t i) (refused WrongParent i) (cond (bad_span t n i) (refused BadSpan i) on))
     unfolding rules_from
     turn = let e : count t - i ≡ suc (count t - (i + 1)) = omega arith in w.left ∙ rw e
 
@@ -105,18 +106,17 @@ module _ {t : List ℕ} {n i : ℕ} {b : Known} {above : List ℕ} {v : Verdict}
     depth : r.depth ≡ depth_at t i
     depth = rw q (unfold record_at in refl)
 
-    pub checking-misfit : {k : ℕ} → k ≡ misfit_of b r → (k ≡ 0 → ⊥) → Refused k i ≡ v
-    checking-misfit s f =
-        sym (turn ∙ told-early i (unlisted t i) (misplaced t i) (too_deep t i) _ (λ e. f (s ∙ misfit ∙ e)) ∙ rw (s ∙ misfit))
+    pub checking-misfit : {k : Condition} → Some k ≡ misfit_of b r → refused k i ≡ v
+    checking-misfit s = sym (turn ∙ told-early i (unlisted t i) (misplaced t i) (too_deep t i) _ (sym (s ∙ misfit)))
 
-    module _ {k : ℕ} (s : k ≡ misfit_of b r) (z : k ≡ 0) where
+    module _ {k : Option Condition} (s : k ≡ misfit_of b r) (z : k ≡ None) where
       fits : (on' : Verdict) → (told i (unlisted t i) (misplaced t i) (too_deep t i) on' ≡ on') × (too_deep t i ≡ false)
       fits on' = told-on i (unlisted t i) (misplaced t i) (too_deep t i) on' (sym (s ∙ misfit) ∙ z)
 
       pub fit-depth : r.depth ≤ most_depth
       fit-depth = rw depth (ltb-false most_depth (depth_at t i) (fits v).1)
 
-      fitted : v ≡ cond (wrong_parent t i) (Refused 12 i) (cond (bad_span t n i) (Refused 6 i) on)
+      fitted : v ≡ cond (wrong_parent t i) (refused WrongParent i) (cond (bad_span t n i) (refused BadSpan i) on)
       fitted = turn ∙ (fits _).0
 
       expected : get_or above r.depth 0 ≡ parent_of t i
@@ -125,14 +125,14 @@ module _ {t : List ℕ} {n i : ℕ} {b : Known} {above : List ℕ} {v : Verdict}
       stray : not (eqb (parent_at t i) (get_or above r.depth 0)) ≡ wrong_parent t i
       stray = rw expected
 
-      pub checking-parent : not (eqb (parent_at t i) (get_or above r.depth 0)) ≡ true → Refused 12 i ≡ v
+      pub checking-parent : not (eqb (parent_at t i) (get_or above r.depth 0)) ≡ true → refused WrongParent i ≡ v
       checking-parent f = sym (fitted ∙ rw (sym stray ∙ f))
 
       module _ (p : not (eqb (parent_at t i) (get_or above r.depth 0)) ≡ false) where
-        owned : v ≡ cond (bad_span t n i) (Refused 6 i) on
+        owned : v ≡ cond (bad_span t n i) (refused BadSpan i) on
         owned = fitted ∙ rw (sym stray ∙ p)
 
-        pub checking-span : off_source n b r ≡ true → Refused 6 i ≡ v
+        pub checking-span : off_source n b r ≡ true → refused BadSpan i ≡ v
         checking-span e = sym (owned ∙ rw (sym span ∙ e))
 
         pub checking-next : {b' : Known} {above' : List ℕ} → off_source n b r ≡ false → above' ≡ set above (r.depth + 1) i → b' ≡ after b r

@@ -7,7 +7,6 @@ use frame::{TEXT_ROOM, glance};
 use lines::input::number;
 use std::io;
 use std::io::Read;
-use text::text::same;
 
 // How many bytes stand before a frame's input.
 const HEAD: usize = 17;
@@ -29,7 +28,7 @@ enum Outcome {
 fn compare(input: &[u8], stored: &[u8]) -> Outcome {
     let mut text = [0u8; TEXT_ROOM];
     let k = glance(input, &mut text);
-    if same(&text[..k], stored) {
+    if &text[..k] == stored {
         return Outcome::Agrees;
     }
     Outcome::Differs
@@ -80,6 +79,7 @@ fn main(rt: HostRuntime) -> io::Result<()> {
     let mut list = rt.reader();
     let mut frames: u64 = 0;
     let mut agreed: u64 = 0;
+    // not a for over a range: the count is printed behind the loop
     while frames < u64::MAX {
         match next_frame(&mut list)? {
             Outcome::End => break,

@@ -11,21 +11,15 @@ use native.Mathlib.Nat.{mul-le-mul_right}
 use lib.Dec.{ltb}
 use lib.ListN.{length, drop, length-append}
 use borrow.Author.Tests.{ltb-false, le-ltb}
-use Rattle.lent.specs.declared.verdict.Verdict.{Verdict}
-use Rattle.lent.specs.declared.verdict.Verdict.TheVariants.{Admitted, Refused}
-use Rattle.lent.specs.declared.list.Listed.{Listed}
-use Rattle.lent.specs.declared.list.Listed.TheVariants.{Entries, Refused as Unlisted}
-use Rattle.lent.specs.Verdicts.{Rule, first}
+use Rattle.std.specs.Prelude.{Ok, Err, Result, Option, Some, None}
+use Rattle.lent.specs.declared.refusal.Refusal.{Refusal}
+use Rattle.lent.specs.Verdicts.{Rule, first, Verdict}
 use Rattle.table.specs.Rules.{rules, root_rules, verdict}
 use Rattle.lent.specs.Numbers.{number_bytes}
 use Rattle.lent.specs.Lists.{list_bytes, room_rule, list_verdict, reply, buffer, listed, lent}
 use Rattle.lent.proofs.Verdicts.{then-admitted}
 use Rattle.lent.proofs.Writes.{length-wide}
 use Rattle.forest.proofs.Sense.{admitted-tidy}
-use Rattle.statement.specs.declared.statement.Enclosing.{Enclosing}
-use Rattle.statement.specs.declared.statement.Enclosing.TheVariants.{Outside, Record}
-use Rattle.statement.specs.declared.statement.StatementReply.TheVariants.{Statement, NoStatement, Refused as Unstated}
-use Rattle.statement.specs.Statement.{told, statement_reply}
 use Rattle.references.specs.References.{reference_bytes, reference_row}
 use Rattle.lists.specs.Scope.{table_refs}
 use Rattle.print.specs.Printed.{letter_t, printed_list, refusal_line}
@@ -37,65 +31,45 @@ use Rattle.print.proofs.Writing.{printed-are}
 use Rattle.lent.specs.Fit32.{AllFit32}
 use Rattle.scope.proofs.Fitting.{references-fit}
 
--- ---- the statement
-
 -- a verdict does not both admit and refuse
-pub never_both : {v : Verdict} {k d : ℕ} → Admitted ≡ v → Refused k d ≡ v → ⊥
+pub never_both : {v : Verdict} {r : Refusal} → Ok tt ≡ v → Err r ≡ v → ⊥
 never_both a r = let z : ◌≡◌ {A = ℕ} 0 1 = cc in omega arith
-
-pub statement-found : (v : Verdict) (x : Enclosing) → Admitted ≡ v → {n : ℕ} → Statement n ≡ statement_reply v x → x ≡ Record n
-unfolding statement_reply told
-statement-found Admitted Outside a e = absurd (let z : ◌≡◌ {A = ℕ} 0 1 = cc in omega arith)
-statement-found Admitted (Record m) a e = cc
-statement-found (Refused k d) x a e = absurd (let z : ◌≡◌ {A = ℕ} 0 1 = cc in omega arith)
-
-pub statement-none : (v : Verdict) (x : Enclosing) → Admitted ≡ v → NoStatement ≡ statement_reply v x → x ≡ Outside
-unfolding statement_reply told
-statement-none Admitted Outside a e = refl
-statement-none Admitted (Record m) a e = absurd (let z : ◌≡◌ {A = ℕ} 0 1 = cc in omega arith)
-statement-none (Refused k d) x a e = absurd (let z : ◌≡◌ {A = ℕ} 0 1 = cc in omega arith)
-
-pub statement-denied : (v : Verdict) (x : Enclosing) → Admitted ≡ v → {k d : ℕ} → Unstated k d ≡ statement_reply v x → ⊥
-unfolding statement_reply told
-statement-denied Admitted Outside a e = let z : ◌≡◌ {A = ℕ} 0 1 = cc in omega arith
-statement-denied Admitted (Record m) a e = let z : ◌≡◌ {A = ℕ} 0 1 = cc in omega arith
-statement-denied (Refused k d) x a e = let z : ◌≡◌ {A = ℕ} 0 1 = cc in omega arith
 
 -- ---- a list
 
-entries-is : (v : Verdict) (m : ℕ) {n : ℕ} → Entries n ≡ reply v m → (Admitted ≡ v) × (n ≡ m)
+entries-is : (v : Verdict) (m : ℕ) {n : ℕ} → Ok n ≡ reply v m → (Ok tt ≡ v) × (n ≡ m)
 unfolding reply
-entries-is Admitted m e = (refl, cc)
-entries-is (Refused k d) m e = absurd (let z : ◌≡◌ {A = ℕ} 0 1 = cc in omega arith)
+entries-is (Ok tt) m e = (refl, cc)
+entries-is (Err r) m e = absurd (let z : ◌≡◌ {A = ℕ} 0 1 = cc in omega arith)
 
-denied-is : (v : Verdict) (m : ℕ) {k d : ℕ} → Unlisted k d ≡ reply v m → Refused k d ≡ v
+denied-is : (v : Verdict) (m : ℕ) {r : Refusal} → Err r ≡ reply v m → Err r ≡ v
 unfolding reply
-denied-is Admitted m e = absurd (let z : ◌≡◌ {A = ℕ} 0 1 = cc in omega arith)
-denied-is (Refused k' d') m e = cc
+denied-is (Ok tt) m e = absurd (let z : ◌≡◌ {A = ℕ} 0 1 = cc in omega arith)
+denied-is (Err r') m e = cc
 
 -- rules that admit together admit in part
-pub admitted-first : (rs more : List Rule) → Admitted ≡ first (rs ++ more) → Admitted ≡ first rs
+pub admitted-first : (rs more : List Rule) → Ok tt ≡ first (rs ++ more) → Ok tt ≡ first rs
 admitted-first [] more a = refl
 admitted-first (r ∷ rs) more a = go r.broken refl (admitted-first rs more)
   where
-    go : (b : Bool) → r.broken ≡ b → (Admitted ≡ first (rs ++ more) → Admitted ≡ first rs) → Admitted ≡ first (r ∷ rs)
+    go : (b : Bool) → r.broken ≡ b → (Ok tt ≡ first (rs ++ more) → Ok tt ≡ first rs) → Ok tt ≡ first (r ∷ rs)
     go true e ih = absurd (never_both (rw e at a) refl)
     go false e ih = rw e (ih (rw e at a))
 
 module _ {E : Type 0} (row : E → List ℕ) (rs : List Rule) (es : List E) (out : List ℕ) where
-  pub list-given : {n : ℕ} → Entries n ≡ listed rs row es out → (Admitted ≡ list_verdict rs row es out) × (n ≡ length es)
+  pub list-given : {n : ℕ} → Ok n ≡ listed rs row es out → (Ok tt ≡ list_verdict rs row es out) × (n ≡ length es)
   unfolding listed
   list-given e = entries-is (list_verdict rs row es out) (length es) e
 
-  pub list-denied : {k d : ℕ} → Unlisted k d ≡ listed rs row es out → Refused k d ≡ list_verdict rs row es out
+  pub list-denied : {r : Refusal} → Err r ≡ listed rs row es out → Err r ≡ list_verdict rs row es out
   unfolding listed
   list-denied e = denied-is (list_verdict rs row es out) (length es) e
 
-  pub list-bytes : Admitted ≡ list_verdict rs row es out → lent rs row es out ≡ list_bytes row es ++ drop (length (list_bytes row es)) out
+  pub list-bytes : Ok tt ≡ list_verdict rs row es out → lent rs row es out ≡ list_bytes row es ++ drop (length (list_bytes row es)) out
   unfolding lent buffer
   list-bytes a = rw (← a)
 
-  pub list-room : Admitted ≡ list_verdict rs row es out → length (list_bytes row es) ≤ length out
+  pub list-room : Ok tt ≡ list_verdict rs row es out → length (list_bytes row es) ≤ length out
   list-room a = go (ltb (length out) (length (list_bytes row es))) refl
     where
       go : (b : Bool) → ltb (length out) (length (list_bytes row es)) ≡ b → length (list_bytes row es) ≤ length out
@@ -103,7 +77,7 @@ module _ {E : Type 0} (row : E → List ℕ) (rs : List Rule) (es : List E) (out
       go false e = ltb-false (length out) (length (list_bytes row es)) e
 
   -- a list that has room is not refused where its question is not
-  pub list-not-denied : Admitted ≡ first rs → length (list_bytes row es) ≤ length out → {k d : ℕ} → Unlisted k d ≡ listed rs row es out → ⊥
+  pub list-not-denied : Ok tt ≡ first rs → length (list_bytes row es) ≤ length out → {r : Refusal} → Err r ≡ listed rs row es out → ⊥
   list-not-denied a h e = never_both refl (rw (le-ltb (length out) (length (list_bytes row es)) h) at (list-denied e ∙ then-admitted rs (room_rule row es out ∷ []) a))
 
 -- a list whose entries have w numbers each
@@ -112,7 +86,7 @@ module _ {E : Type 0} (row : E → List ℕ) (w : ℕ) (wide : (e : E) → lengt
   list-size es = length-wide row (number_bytes * w) (λ e. ap (λ (x : ℕ). number_bytes * x) (wide e)) es
 
   -- where it is answered, it is read back from its buffer
-  pub list_read : (rs : List Rule) (es : List E) (out : List ℕ) {n : ℕ} {list : List ℕ} → Entries n ≡ listed rs row es out → list ≡ lent rs row es out
+  pub list_read : (rs : List Rule) (es : List E) (out : List ℕ) {n : ℕ} {list : List ℕ} → Ok n ≡ listed rs row es out → list ≡ lent rs row es out
       → AllFit32 row es → (n ≡ length es) × (n * (number_bytes * w) ≤ length list) × (n * (number_bytes * w) ≤ length out)
       × ((letter k : ℕ) → printed_words letter k w list 0 n ≡ printed_list letter k (map row es))
   list_read rs es out {n} {list} e q fit =
@@ -126,13 +100,13 @@ module _ {E : Type 0} (row : E → List ℕ) (w : ℕ) (wide : (e : E) → lengt
       )
 
   -- where its table is admitted and it has room, it is not refused
-  pub list-fits : (rs : List Rule) (es : List E) (out : List ℕ) (m : ℕ) (r : Listed) {list : List ℕ} → Admitted ≡ first rs → AllFit32 row es → length es ≤ m
+  pub list-fits : (rs : List Rule) (es : List E) (out : List ℕ) (m : ℕ) (r : Result ℕ Refusal) {list : List ℕ} → Ok tt ≡ first rs → AllFit32 row es → length es ≤ m
       → m * (number_bytes * w) ≤ length out → r ≡ listed rs row es out → list ≡ lent rs row es out
       → (entry_count r ≤ m) × (entry_count r * (number_bytes * w) ≤ length list)
       × ((letter k : ℕ) → printed_words letter k w list 0 (entry_count r) ≡ printed_list letter k (map row es))
   unfolding entry_count
-  list-fits rs es out m (Entries n) a fit f h e q = let g = list_read rs es out e q fit in (omega (arith, g.0), g.1, g.3)
-  list-fits rs es out m (Unlisted k d) a fit f h e q =
+  list-fits rs es out m (Ok n) a fit f h e q = let g = list_read rs es out e q fit in (omega (arith, g.0), g.1, g.3)
+  list-fits rs es out m (Err r) a fit f h e q =
       absurd (list-not-denied row rs es out a (omega (arith, list-size es, mul-le-mul_right (number_bytes * w) f)) e)
 
 -- ---- the verdict on a frame's table
@@ -142,20 +116,20 @@ module _ (src t out : List ℕ) (z : length out ≡ reference_room) where
   unfolding question_verdict
   same-verdict = rw z
 
-  module _ {r : Listed} (w : r ≡ listed (root_rules t (length src) 0) reference_row (table_refs src t 0) out) where
-    pub question-refused : {k d : ℕ} → r ≡ Unlisted k d → (o : ℕ) → replied src t o ≡ refusal_line k d
+  module _ {r : Result ℕ Refusal} (w : r ≡ listed (root_rules t (length src) 0) reference_row (table_refs src t 0) out) where
+    pub question-refused : {x : Refusal} → r ≡ Err x → (o : ℕ) → replied src t o ≡ refusal_line x
     unfolding unless_refused
     question-refused q o = rw (← (list-denied reference_row (root_rules t (length src) 0) (table_refs src t 0) out (sym q ∙ w) ∙ same-verdict))
 
     -- the references are read back from their buffer, and are the answer's
-    pub question-read : {n : ℕ} {list : List ℕ} → r ≡ Entries n → list ≡ lent (root_rules t (length src) 0) reference_row (table_refs src t 0) out
-        → (Admitted ≡ verdict t (length src) 0) × (n * reference_bytes ≤ length list) × (n ≤ most_references)
+    pub question-read : {n : ℕ} {list : List ℕ} → r ≡ Ok n → list ≡ lent (root_rules t (length src) 0) reference_row (table_refs src t 0) out
+        → (Ok tt ≡ verdict t (length src) 0) × (n * reference_bytes ≤ length list) × (n ≤ most_references)
         × ((o : ℕ) → replied src t o ≡ answered_by src t o (printed_words letter_t 1 13 list 0 n))
     unfolding verdict unless_refused answer_text
     question-read {n} {list} q b =
-        let a : Admitted ≡ list_verdict (root_rules t (length src) 0) reference_row (table_refs src t 0) out
+        let a : Ok tt ≡ list_verdict (root_rules t (length src) 0) reference_row (table_refs src t 0) out
         = (list-given reference_row (root_rules t (length src) 0) (table_refs src t 0) out (sym q ∙ w)).0 in
-        let v : Admitted ≡ first (rules t (length src) 0) = admitted-first (rules t (length src) 0) _ (admitted-first (root_rules t (length src) 0) _ a) in
+        let v : Ok tt ≡ first (rules t (length src) 0) = admitted-first (rules t (length src) 0) _ (admitted-first (root_rules t (length src) 0) _ a) in
         let fit = references-fit src t (length src) 0 0 v (admitted-tidy t (length src) 0 (sym v)).some in
         let g = list_read reference_row 13 (λ e. refl) (root_rules t (length src) 0) (table_refs src t 0) out (sym q ∙ w) b fit in (
           v,

@@ -1,9 +1,8 @@
 -- Document 01, Worked by hand: what glance prints.
 -- Definitions only.
-use Rattle.std.specs.Prelude.{ℕ, List, [], ◌∷◌, ◌++◌, map, length, ltb}
-use Rattle.lent.specs.declared.verdict.Verdict.{Verdict}
-use Rattle.lent.specs.declared.verdict.Verdict.TheVariants.{Admitted, Refused}
-use Rattle.lent.specs.Verdicts.{Rule, rule, first}
+use Rattle.lent.specs.declared.refusal.Condition.TheVariants.{NoRoom}
+use Rattle.std.specs.Prelude.{ℕ, List, [], ◌∷◌, ◌++◌, map, length, ltb, Ok, Err}
+use Rattle.lent.specs.Verdicts.{Rule, rule, first, Verdict}
 use Rattle.table.specs.Rules.{root_rules}
 use Rattle.lent.specs.Lists.{list_bytes}
 use Rattle.references.specs.declared.pending.TableRef.{TableRef}
@@ -46,7 +45,7 @@ reference_room = 16384
 
 -- 7: the reference list needs more
 abbrev pub reference_rule : List TableRef → Rule
-reference_rule refs = rule 7 (length refs) (ltb reference_room (length (list_bytes reference_row refs)))
+reference_rule refs = rule NoRoom (length refs) (ltb reference_room (length (list_bytes reference_row refs)))
 
 -- the verdict on a source and a table: document 01's order, with record 0 as the root
 unfoldable pub question_verdict : List ℕ → List ℕ → Verdict
@@ -54,8 +53,8 @@ question_verdict src t = first (root_rules t (length src) 0 ++ reference_rule (t
 
 -- a refusal prints `R number detail` alone
 unfoldable pub unless_refused : Verdict → List ℕ → List ℕ
-unless_refused Admitted text = text
-unless_refused (Refused k d) text = refusal_line k d
+unless_refused (Ok _) text = text
+unless_refused (Err r) text = refusal_line r
 
 -- what is printed for a table, a source and an offset
 abbrev pub replied : List ℕ → List ℕ → ℕ → List ℕ

@@ -1,6 +1,5 @@
 // The answers to a frame as text.
 ghost use Rattle.std.specs.Prelude.{◌≡◌, ◌+◌, ◌*◌, ◌/◌, ◌≤◌, length};
-ghost use Rattle.lent.specs.declared.verdict.Verdict.TheVariants.{Admitted};
 ghost use Rattle.table.specs.Rules.{verdict};
 ghost use Rattle.records.specs.Table.{count};
 ghost use Rattle.cursor.specs.CursorContext.{context_at};
@@ -13,16 +12,15 @@ ghost use Rattle.print.specs.inner.Writing.{Put, printed_words, line_room};
 ghost use Rattle.report.specs.inner.Room.{entry_count, most_references, text_room};
 
 use brackets::bracket_matching::openers_left;
-use contexts::context::ContextReply;
 use cursor::cursor_context::cursor_context;
-use lent::list::Listed;
 use lent::number::NUMBER_BYTES;
+use lent::refusal::Refusal;
 use lines::input::MOST_LINES;
 use print::printed::{put_code, put_found, put_list, put_refusal, put_text};
 use references::references::REFERENCE_BYTES;
 use scope::scope::table_refs;
 use scope::semantic_tokens::token_classes;
-use statement::statement::{StatementReply, enclosing_statement};
+use statement::statement::enclosing_statement;
 
 // How many numbers the entry of a class has, and that of an opener; how many numbers and ranges that of a reference has.
 const CLASS_NUMBERS: usize = 3;
@@ -45,41 +43,41 @@ pub const MOST_REFERENCES: usize = REFERENCE_ROOM / REFERENCE_BYTES;
 
 // The context of an admitted table, as a line.
 fn put_context(out: &mut [u8], at: usize, table: &[u8], source: &[u8], offset: usize) -> usize
-    requires { (Admitted ≡ verdict table.now (length source.now) 0) × (at + line_room ≤ length out.old) }
+    requires { (Ok tt ≡ verdict table.now (length source.now) 0) × (at + line_room ≤ length out.old) }
     ensures { Put (context_line (context_at source.now table.now offset)) out.old at out.new result
         × (result ≤ at + line_room) }
 {
     match cursor_context(table, source, offset) {
-        ContextReply::Context(c) => put_code(out, at, c),
-        ContextReply::Refused(_, _) => at,
+        Ok(c) => put_code(out, at, c),
+        Err(_) => at,
     }
 }
 
 // The enclosing statement of an admitted table, as a line.
 fn put_statement(out: &mut [u8], at: usize, table: &[u8], source: &[u8], offset: usize) -> usize
-    requires { (Admitted ≡ verdict table.now (length source.now) 0) × (at + line_room ≤ length out.old) }
+    requires { (Ok tt ≡ verdict table.now (length source.now) 0) × (at + line_room ≤ length out.old) }
     ensures { Put (statement_line (enclosing_at table.now offset)) out.old at out.new result × (result ≤ at + line_room) }
 {
     match enclosing_statement(table, source, offset) {
-        StatementReply::Statement(n) => put_found(out, at, n),
-        StatementReply::NoStatement => put_text(out, at, b"S -\n"),
-        StatementReply::Refused(_, _) => at,
+        Ok(Some(n)) => put_found(out, at, n),
+        Ok(None) => put_text(out, at, b"S -\n"),
+        Err(_) => at,
     }
 }
 
 // How many entries a reply tells of: none where it is a refusal.
-fn entry_count(reply: Listed) -> usize
+fn entry_count(reply: Result<u32, Refusal>) -> usize
     ensures { result ≡ entry_count reply }
 {
     match reply {
-        Listed::Entries(n) => n as usize,
-        Listed::Refused(_, _) => 0,
+        Ok(n) => n as usize,
+        Err(_) => 0,
     }
 }
 
 // The classes of an admitted table, a line each.
 fn put_classes(out: &mut [u8], at: usize, table: &[u8], source: &[u8]) -> usize
-    requires { (Admitted ≡ verdict table.now (length source.now) 0) × (count table.now ≤ most_lines) × (at + line_room * most_lines ≤ length out.old) }
+    requires { (Ok tt ≡ verdict table.now (length source.now) 0) × (count table.now ≤ most_lines) × (at + line_room * most_lines ≤ length out.old) }
     ensures { Put (class_lines source.now table.now) out.old at out.new result × (result ≤ at + line_room * most_lines) }
 {
     let mut list = [0u8; CLASS_ROOM];
@@ -89,7 +87,7 @@ fn put_classes(out: &mut [u8], at: usize, table: &[u8], source: &[u8]) -> usize
 
 // The openers left of an admitted table, a line each.
 fn put_openers(out: &mut [u8], at: usize, table: &[u8], source: &[u8]) -> usize
-    requires { (Admitted ≡ verdict table.now (length source.now) 0) × (count table.now ≤ most_lines) × (at + line_room * most_lines ≤ length out.old) }
+    requires { (Ok tt ≡ verdict table.now (length source.now) 0) × (count table.now ≤ most_lines) × (at + line_room * most_lines ≤ length out.old) }
     ensures { Put (opener_lines table.now) out.old at out.new result × (result ≤ at + line_room * most_lines) }
 {
     let mut list = [0u8; OPENER_ROOM];
@@ -106,7 +104,7 @@ fn put_answer(
     refs: &[u8],
     n: usize,
 ) -> usize
-    requires { (Admitted ≡ verdict table.now (length source.now) 0) × (count table.now ≤ most_lines)
+    requires { (Ok tt ≡ verdict table.now (length source.now) 0) × (count table.now ≤ most_lines)
         × (n * reference_bytes ≤ length refs.now) × (n ≤ most_references) × (text_room ≤ length out.old) }
     ensures { Put (answered_by source.now table.now offset (printed_words letter_t 1 13 refs.now 0 n))
         out.old 0 out.new result × (result ≤ text_room) }
@@ -134,7 +132,7 @@ pub fn put_reply(out: &mut [u8], table: &[u8], source: &[u8], offset: usize) -> 
 {
     let mut refs = [0u8; REFERENCE_ROOM];
     match table_refs(table, source, 0, &mut refs) {
-        Listed::Refused(k, d) => put_refusal(out, k, d),
-        Listed::Entries(n) => put_answer(out, table, source, offset, &refs, n as usize),
+        Err(refusal) => put_refusal(out, refusal),
+        Ok(n) => put_answer(out, table, source, offset, &refs, n as usize),
     }
 }

@@ -4,7 +4,7 @@ ghost use Rattle.lent.specs.Verdicts.{first};
 ghost use Rattle.rooms.specs.inner.Counted.{rooms_for};
 
 use lent::number::NUMBER_BYTES;
-use lent::verdict::{NO_ROOM, Verdict};
+use lent::refusal::{Condition, Refusal, refused};
 use names::bindings::BINDING_BYTES;
 use references::references::REFERENCE_BYTES;
 
@@ -21,23 +21,23 @@ pub struct Counts {
 const EVERYTHING_BYTES: usize = 9 * NUMBER_BYTES;
 
 // Is there room in buffers of these lengths? Refused for the first that has none.
-pub fn room_for(c: Counts, e: usize, w: usize, a: usize, b: usize, r: usize) -> Verdict
+pub fn room_for(c: Counts, e: usize, w: usize, a: usize, b: usize, r: usize) -> Result<(), Refusal>
     ensures { result ≡ first (rooms_for c e w a b r) }
 {
     if e < EVERYTHING_BYTES {
-        return Verdict::Refused(NO_ROOM, 1);
+        return refused(Condition::NoRoom, 1);
     }
     if w < BINDING_BYTES * (c.names as usize) {
-        return Verdict::Refused(NO_ROOM, c.names);
+        return refused(Condition::NoRoom, c.names);
     }
     if a < BINDING_BYTES * (c.aliases as usize) {
-        return Verdict::Refused(NO_ROOM, c.aliases);
+        return refused(Condition::NoRoom, c.aliases);
     }
     if b < BINDING_BYTES * (c.columns as usize) {
-        return Verdict::Refused(NO_ROOM, c.columns);
+        return refused(Condition::NoRoom, c.columns);
     }
     if r < REFERENCE_BYTES * (c.refs as usize) {
-        return Verdict::Refused(NO_ROOM, c.refs);
+        return refused(Condition::NoRoom, c.refs);
     }
-    Verdict::Admitted
+    Ok(())
 }

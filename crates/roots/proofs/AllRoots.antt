@@ -13,8 +13,8 @@ use native.Mathlib.Omega.{arith}
 use native.Mathlib.Nat.{zero-add, div-div-eq-div-mul, div-add-mod', mod-eq_of_lt}
 use borrow.Author.Tests.{eq-eqb, leb-true}
 use lib.ListN.{length, drop}
+use Rattle.std.specs.Prelude.{Ok}
 use Rattle.records.specs.declared.record.Rec.{Rec}
-use Rattle.lent.specs.declared.verdict.Verdict.TheVariants.{Admitted}
 use Rattle.records.specs.Kinds.{is_node, expression}
 use Rattle.lent.specs.Numbers.{word}
 use Rattle.records.specs.Table.{count, kind_at, record_at, records, part}
@@ -123,7 +123,7 @@ node-self p ps m rs e = all-nodes p.self rs (rw e at (among-selves p ps m))
 
 -- ---- the lists
 
-module _ (src t : List ℕ) (ok : verdict t (length src) 0 ≡ Admitted) where
+module _ (src t : List ℕ) (ok : verdict t (length src) 0 ≡ Ok tt) where
   tidy : Tidy t (length src)
   tidy = admitted-tidy t (length src) 0 ok
 

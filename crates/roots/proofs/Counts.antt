@@ -8,15 +8,13 @@ use native.Mathlib.Omega.{arith}
 use native.Mathlib.Nat.{mul-add, add-mul}
 use borrow.Author.Tests.{eqb-true, eq-eqb, ne_eqb}
 use lib.Dec.{eqb}
+use Rattle.names.specs.declared.names.NameBinding.{NameBinding}
+use Rattle.std.specs.Prelude.{Option, Some, None}
 use Rattle.records.specs.declared.record.Rec.{Rec}
 use Rattle.forest.specs.Forest.{Forest, nil, token, node}
 use Rattle.forest.specs.Places.{Place, places, sum}
 use Rattle.forest.proofs.Places.{sum-append}
 use Rattle.references.specs.declared.pending.TableRef.{TableRef}
-use Rattle.names.specs.declared.names.Bound.{Bound}
-use Rattle.names.specs.declared.names.Bound.TheVariants.{Unnamed, Named}
-use Rattle.references.specs.declared.pending.Pending.{Pending}
-use Rattle.references.specs.declared.pending.Pending.TheVariants.{Nothing, Held}
 use Rattle.names.specs.Names.{is_part, direct, alias_in}
 use Rattle.collection.specs.Collection.{node_gives, collected, collection, own_tables}
 use Rattle.references.specs.References.{fresh}
@@ -66,19 +64,19 @@ module _ (w : ℕ → ℕ) where
   weight-fresh src x (d ∷ t ∷ []) = omega arith
   weight-fresh src x (d ∷ t ∷ u ∷ more) = refl
 
-  weight-aliased : (p : Pending) (b : Bound) → weight (hand_on references (aliased p b)) ≡ weight (hand_on references p)
+  weight-aliased : (p : Option TableRef) (b : Option NameBinding) → weight (hand_on references (aliased p b)) ≡ weight (hand_on references p)
   unfolding aliased hand_on sum
-  weight-aliased Nothing b = refl
-  weight-aliased (Held t) Unnamed = refl
-  weight-aliased (Held t) (Named b) = refl
+  weight-aliased None b = refl
+  weight-aliased (Some t) None = refl
+  weight-aliased (Some t) (Some b) = refl
 
-  weight-listed : (p : Pending) (b : Bound) → weight (list_alias references p b) ≡ 0
+  weight-listed : (p : Option TableRef) (b : Option NameBinding) → weight (list_alias references p b) ≡ 0
   unfolding list_alias sum
-  weight-listed Nothing b = refl
-  weight-listed (Held t) Unnamed = refl
-  weight-listed (Held t) (Named b) = refl
+  weight-listed None b = refl
+  weight-listed (Some t) None = refl
+  weight-listed (Some t) (Some b) = refl
 
-  weight-idle : weight (hand_on references Nothing) ≡ 0
+  weight-idle : weight (hand_on references None) ≡ 0
   unfolding hand_on sum
   weight-idle = refl
 
@@ -86,23 +84,23 @@ module _ (w : ℕ → ℕ) where
   add xs ys = sum-append (λ (x : TableRef). w x.«record») xs ys
 
   module _ (src : List ℕ) where
-    abbrev read : Pending → Forest → List TableRef
+    abbrev read : Option TableRef → Forest → List TableRef
     read = table_reading references src
 
-    read-node : (r : Rec) (below rest : Forest) (p : Pending) → Sort r.kind
-        → weight (read Nothing below) ≡ weight (hand_on references Nothing) + reached w below
-        → ((q : Pending) → weight (read q rest) ≡ weight (hand_on references q) + reached w rest)
+    read-node : (r : Rec) (below rest : Forest) (p : Option TableRef) → Sort r.kind
+        → weight (read None below) ≡ weight (hand_on references None) + reached w below
+        → ((q : Option TableRef) → weight (read q rest) ≡ weight (hand_on references q) + reached w rest)
         → weight (read p (node r below rest)) ≡ weight (hand_on references p) + reached w (node r below rest)
     unfolding table_reading reached
     read-node r below rest p (is_with e) ib ir = rw e (omega (arith, ir p))
     read-node r below rest p (is_from e) ib ir = rw e (omega (arith, ir p))
     read-node r below rest p (is_join e) ib ir =
-        rw (e, add (hand_on references p) (read Nothing below ++ read Nothing rest), add (read Nothing below) (read Nothing rest)) (omega (arith, ib, ir Nothing, weight-idle))
+        rw (e, add (hand_on references p) (read None below ++ read None rest), add (read None below) (read None rest)) (omega (arith, ib, ir None, weight-idle))
     read-node r below rest p (is_sub e) ib ir = rw e (omega (arith, ir p))
     read-node r below rest p (is_table e) ib ir =
         rw (e, add (hand_on references p) (read (fresh src r.index (direct is_part below)) rest))
         (omega (arith, ir (fresh src r.index (direct is_part below)), weight-fresh src r.index (direct is_part below)))
-    read-node r below rest p (is_nest e) ib ir = rw (e, add (read Nothing below) (read p rest)) (omega (arith, ib, ir p, weight-idle))
+    read-node r below rest p (is_nest e) ib ir = rw (e, add (read None below) (read p rest)) (omega (arith, ib, ir p, weight-idle))
     read-node r below rest p (is_alias e) ib ir =
         rw (
           ne_eqb r.kind 33 (λ q. omega arith),
@@ -114,11 +112,11 @@ module _ (w : ℕ → ℕ) where
         (omega (arith, ir (aliased p (alias_in src r below)), weight-aliased p (alias_in src r below), weight-listed p (alias_in src r below)))
     read-node r below rest p (is_other a b c d e f g) ib ir = rw (e, g, f, c) (omega (arith, ir p))
 
-    pub read-weight : (p : Pending) (f : Forest) → weight (read p f) ≡ weight (hand_on references p) + reached w f
+    pub read-weight : (p : Option TableRef) (f : Forest) → weight (read p f) ≡ weight (hand_on references p) + reached w f
     unfolding table_reading reached
     read-weight p nil = omega arith
     read-weight p (token r rest) = read-weight p rest
-    read-weight p (node r below rest) = read-node r below rest p (sort r.kind) (read-weight Nothing below) (λ q. read-weight q rest)
+    read-weight p (node r below rest) = read-node r below rest p (sort r.kind) (read-weight None below) (λ q. read-weight q rest)
 
 -- ---- how often a node is reached, from the nearest node above on
 
@@ -215,10 +213,10 @@ module _ (src : List ℕ) where
   unfolding node_gives own_tables sum
   weight-entered w k below inner = decide k 14 (λ e. rw e) (λ e. rw e (go (from_or_join k)))
     where
-      go : (f : Bool) → weight w (cond f (table_reading references src Nothing below) [] ++ inner) ≡ cond f (reached w below) 0 + weight w inner
+      go : (f : Bool) → weight w (cond f (table_reading references src None below) [] ++ inner) ≡ cond f (reached w below) 0 + weight w inner
       go true =
-          rw (sum-append (λ (x : TableRef). w x.«record») (table_reading references src Nothing below) inner)
-          (omega (arith, read-weight w src Nothing below, weight-idle w))
+          rw (sum-append (λ (x : TableRef). w x.«record») (table_reading references src None below) inner)
+          (omega (arith, read-weight w src None below, weight-idle w))
       go false = omega arith
 
   collected-on : (w : ℕ → ℕ) (r : Rec) (below rest : Forest) → eqb r.kind 30 ≡ false

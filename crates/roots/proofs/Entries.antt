@@ -8,18 +8,15 @@ use mathlib.Core.List.Memᴰ
 use mathlib.Core.List.{List, [], ◌∷◌, Memᴰ}
 use mathlib.Core.Logic.{⊎_elim}
 use lib.Dec.{eqb}
+use Rattle.std.specs.Prelude.{Option, Some, None}
 use Rattle.records.specs.declared.record.Rec.{Rec}
 use Rattle.records.specs.Kinds.{with_clause, select_clause, from_clause, with_expression_item, column_list, expression_list, column_alias, join_clause}
 use Rattle.records.specs.Table.{count, kind_at}
 use Rattle.forest.specs.Forest.{Forest, stretch_end, inside}
 use Rattle.names.specs.declared.names.NameBinding.{NameBinding}
-use Rattle.names.specs.declared.names.Bound.{Bound}
-use Rattle.names.specs.declared.names.Bound.TheVariants.{Unnamed, Named}
 use Rattle.names.specs.Names.{is_part, direct, with_item, alias_in}
 use Rattle.names.specs.Bindings.{bound_in}
 use Rattle.references.specs.declared.pending.TableRef.{TableRef}
-use Rattle.references.specs.declared.pending.Pending.{Pending}
-use Rattle.references.specs.declared.pending.Pending.TheVariants.{Nothing, Held}
 use Rattle.references.specs.References.{fresh}
 use Rattle.tables.specs.Tables.{aliased, hand_on, list_alias, table_reading, references, aliases}
 use Rattle.collection.specs.Collection.{own_with, own_columns, own_tables, collection_at}
@@ -49,45 +46,45 @@ module _ (t : List ℕ) where
 
   module _ (src : List ℕ) where
     -- no alias is pending
-    none-pends : (p : Pending) (e : NameBinding) → Memᴰ e (hand_on aliases p) → ⊥
+    none-pends : (p : Option TableRef) (e : NameBinding) → Memᴰ e (hand_on aliases p) → ⊥
     unfolding hand_on
-    none-pends Nothing e m = Memᴰ.not-nil m
-    none-pends (Held r) e m = Memᴰ.not-nil m
+    none-pends None e m = Memᴰ.not-nil m
+    none-pends (Some r) e m = Memᴰ.not-nil m
 
-    alias-listed : (p : Pending) (b : Bound) (e : NameBinding) → Memᴰ e (list_alias aliases p b) → b ≡ Named e
+    alias-listed : (p : Option TableRef) (b : Option NameBinding) (e : NameBinding) → Memᴰ e (list_alias aliases p b) → b ≡ Some e
     unfolding list_alias
-    alias-listed Nothing b e m = in-none m
-    alias-listed (Held r) Unnamed e m = in-none m
-    alias-listed (Held r) (Named x) e m = ap Named (sym (Memᴰ.eq_of_singleton m))
+    alias-listed None b e m = in-none m
+    alias-listed (Some r) None e m = in-none m
+    alias-listed (Some r) (Some x) e m = ap Some (sym (Memᴰ.eq_of_singleton m))
 
     in-aliases : (k : ℕ) (f : Forest) (lo hi : ℕ) (e : NameBinding) → Cover t lo hi f → Memᴰ e (own_tables aliases src k f) → Met t (alias_at src) lo hi e
     unfolding own_tables
     in-aliases k f lo hi e w m = go (eqb k from_clause || eqb k join_clause) m
       where
-        go : (b : Bool) → Memᴰ e (cond b (table_reading aliases src Nothing f) []) → Met t (alias_at src) lo hi e
+        go : (b : Bool) → Memᴰ e (cond b (table_reading aliases src None f) []) → Met t (alias_at src) lo hi e
         go true n =
             ⊎_elim absurd (λ x. x)
             (in-reading t aliases src (λ p x. ⊥) (alias_at src) none-pends (λ p b x i. i) (λ x i. i) (λ r g x q i. absurd i)
-            (λ p r g x q i. (q, alias-listed p (alias_in src r g) x i)) f Nothing lo hi e w n)
+            (λ p r g x q i. (q, alias-listed p (alias_in src r g) x i)) f None lo hi e w n)
         go false n = in-none n
 
     -- a reference is pending under its number
-    Waits : Pending → TableRef → Type 0
-    Waits Nothing e = ⊥
-    Waits (Held r) e = r.«record» ≡ e.«record»
+    Waits : Option TableRef → TableRef → Type 0
+    Waits None e = ⊥
+    Waits (Some r) e = r.«record» ≡ e.«record»
 
-    handed : (p : Pending) (e : TableRef) → Memᴰ e (hand_on references p) → Waits p e
+    handed : (p : Option TableRef) (e : TableRef) → Memᴰ e (hand_on references p) → Waits p e
     unfolding hand_on Waits
-    handed Nothing e m = Memᴰ.not-nil m
-    handed (Held r) e m = ap (λ (x : TableRef). x.«record») (sym (Memᴰ.eq_of_singleton m))
+    handed None e m = Memᴰ.not-nil m
+    handed (Some r) e m = ap (λ (x : TableRef). x.«record») (sym (Memᴰ.eq_of_singleton m))
 
-    kept : (p : Pending) (b : Bound) (e : TableRef) → Waits (aliased p b) e → Waits p e
+    kept : (p : Option TableRef) (b : Option NameBinding) (e : TableRef) → Waits (aliased p b) e → Waits p e
     unfolding aliased Waits
-    kept Nothing b e w = w
-    kept (Held r) Unnamed e w = w
-    kept (Held r) (Named x) e w = w
+    kept None b e w = w
+    kept (Some r) None e w = w
+    kept (Some r) (Some x) e w = w
 
-    idles : (e : TableRef) → Waits Nothing e → ⊥
+    idles : (e : TableRef) → Waits None e → ⊥
     unfolding Waits
     idles e w = w
 
@@ -98,21 +95,21 @@ module _ (t : List ℕ) where
     started i (a ∷ b ∷ []) e w = w
     started i (a ∷ b ∷ c ∷ more) e w = absurd w
 
-    none-listed : {A : Type 0} (p : Pending) (b : Bound) (e : TableRef) → Memᴰ e (list_alias references p b) → A
+    none-listed : {A : Type 0} (p : Option TableRef) (b : Option NameBinding) (e : TableRef) → Memᴰ e (list_alias references p b) → A
     unfolding list_alias
-    none-listed Nothing b e m = in-none m
-    none-listed (Held r) Unnamed e m = in-none m
-    none-listed (Held r) (Named x) e m = in-none m
+    none-listed None b e m = in-none m
+    none-listed (Some r) None e m = in-none m
+    none-listed (Some r) (Some x) e m = in-none m
 
     in-references : (k : ℕ) (f : Forest) (lo hi : ℕ) (e : TableRef) → Cover t lo hi f → Memᴰ e (own_tables references src k f) → Met t reference_at lo hi e
     unfolding own_tables
     in-references k f lo hi e w m = go (eqb k from_clause || eqb k join_clause) m
       where
-        go : (b : Bool) → Memᴰ e (cond b (table_reading references src Nothing f) []) → Met t reference_at lo hi e
+        go : (b : Bool) → Memᴰ e (cond b (table_reading references src None f) []) → Met t reference_at lo hi e
         go true n =
             ⊎_elim (λ i. absurd (idles e i)) (λ x. x)
             (in-reading t references src Waits reference_at handed kept idles (λ r g x q i. (q, started r.index (direct is_part g) x i))
-            (λ p r g x q i. none-listed p (alias_in src r g) x i) f Nothing lo hi e w n)
+            (λ p r g x q i. none-listed p (alias_in src r g) x i) f None lo hi e w n)
         go false n = in-none n
 
     in-columns : (k : ℕ) (f : Forest) (lo hi : ℕ) (e : NameBinding) → Cover t lo hi f → Memᴰ e (own_columns src k f) → Met t (column_at src) lo hi e

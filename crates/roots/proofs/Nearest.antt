@@ -13,18 +13,16 @@ use native.Mathlib.Nat.{zero-add}
 use native.Mathlib.Omega.{arith}
 use borrow.Author.Tests.{eqb-true}
 use lib.Dec.{eqb}
+use Rattle.references.specs.declared.pending.TableRef.{TableRef}
+use Rattle.std.specs.Prelude.{Option, Some, None}
 use Rattle.records.specs.declared.record.Rec.{Rec}
 use Rattle.records.specs.Kinds.{with_clause, subquery_expression, table_identifier, table_expression, table_alias, join_clause}
 use Rattle.records.specs.Table.{count, depth_at, kind_at, record_at, from, records, part}
 use Rattle.forest.specs.Forest.{Forest, nil, token, node, kids, level, stretch_end, inside}
 use Rattle.forest.proofs.Laws.{from_cons, kids-part, head-part}
 use Rattle.names.specs.declared.names.NameBinding.{NameBinding}
-use Rattle.names.specs.declared.names.Bound.{Bound}
-use Rattle.names.specs.declared.names.Bound.TheVariants.{Unnamed, Named}
 use Rattle.names.specs.Names.{is_part, direct, alias_in}
 use Rattle.names.specs.Bindings.{entry, bound_in}
-use Rattle.references.specs.declared.pending.Pending.{Pending}
-use Rattle.references.specs.declared.pending.Pending.TheVariants.{Nothing}
 use Rattle.references.specs.References.{fresh}
 use Rattle.tables.specs.Tables.{aliased, Listing, hand_on, list_alias, table_reading}
 use Rattle.collection.specs.Collection.{node_gives, collected, collection, collection_at}
@@ -37,10 +35,10 @@ use Rattle.roots.proofs.Covers.{Sibling, Cover, inside-cover, Apart, apart-here,
 pub in-none : {E A : Type 0} {e : E} → Memᴰ e [] → A
 in-none m = absurd (Memᴰ.not-nil m)
 
-pub in_entry : (b : Bound) (e : NameBinding) → Memᴰ e (entry b) → b ≡ Named e
+pub in_entry : (b : Option NameBinding) (e : NameBinding) → Memᴰ e (entry b) → b ≡ Some e
 unfolding entry
-in_entry Unnamed e m = in-none m
-in_entry (Named x) e m = ap Named (sym (Memᴰ.eq_of_singleton m))
+in_entry None e m = in-none m
+in_entry (Some x) e m = ap Some (sym (Memᴰ.eq_of_singleton m))
 
 -- a kind that passes a test which kind 30 does not pass
 pub not-subquery : (test : ℕ → Bool) (k : ℕ) → test k ≡ true → test subquery_expression ≡ false → is_subquery k ≡ false
@@ -130,9 +128,9 @@ module _ (t : List ℕ) where
 
   -- ---- what the nodes of one kind bind
 
-  module _ (kind : ℕ) (is_list : ℕ → Bool) (bind : Rec → Forest → Bound) (not-kind : eqb subquery_expression kind ≡ false) (not-list : is_list subquery_expression ≡ false) where
+  module _ (kind : ℕ) (is_list : ℕ → Bool) (bind : Rec → Forest → Option NameBinding) (not-kind : eqb subquery_expression kind ≡ false) (not-list : is_list subquery_expression ≡ false) where
     abbrev binds : NameBinding → Rec → Forest → Type 0
-    binds e r f = (r.kind ≡ kind) × (bind r f ≡ Named e)
+    binds e r f = (r.kind ≡ kind) × (bind r f ≡ Some e)
 
     pub in-bound : (f : Forest) (lo hi : ℕ) (e : NameBinding) → Cover t lo hi f → Memᴰ e (bound_in kind is_list bind f) → Met binds lo hi e
     unfolding bound_in Cover
@@ -154,30 +152,30 @@ module _ (t : List ℕ) where
 
   -- ---- what a table reading lists, where Pends p e says that e is, or is made of, what is pending
 
-  module _ {E : Type 0} (L : Listing E) (src : List ℕ) (Pends : Pending → E → Type 0) (is : E → Rec → Forest → Type 0)
-      (hand : (p : Pending) (e : E) → Memᴰ e (hand_on L p) → Pends p e)
-      (keep : (p : Pending) (b : Bound) (e : E) → Pends (aliased p b) e → Pends p e)
-      (idle : (e : E) → Pends Nothing e → ⊥)
+  module _ {E : Type 0} (L : Listing E) (src : List ℕ) (Pends : Option TableRef → E → Type 0) (is : E → Rec → Forest → Type 0)
+      (hand : (p : Option TableRef) (e : E) → Memᴰ e (hand_on L p) → Pends p e)
+      (keep : (p : Option TableRef) (b : Option NameBinding) (e : E) → Pends (aliased p b) e → Pends p e)
+      (idle : (e : E) → Pends None e → ⊥)
       (name-is : (r : Rec) (f : Forest) (e : E) → r.kind ≡ table_identifier → Pends (fresh src r.index (direct is_part f)) e → is e r f)
-      (alias-is : (p : Pending) (r : Rec) (f : Forest) (e : E) → r.kind ≡ table_alias → Memᴰ e (list_alias L p (alias_in src r f)) → is e r f) where
-    abbrev read : Pending → Forest → List E
+      (alias-is : (p : Option TableRef) (r : Rec) (f : Forest) (e : E) → r.kind ≡ table_alias → Memᴰ e (list_alias L p (alias_in src r f)) → is e r f) where
+    abbrev read : Option TableRef → Forest → List E
     read = table_reading L src
 
-    pub in-reading : (f : Forest) (p : Pending) (lo hi : ℕ) (e : E) → Cover t lo hi f → Memᴰ e (read p f) → Pends p e ⊎ Met is lo hi e
+    pub in-reading : (f : Forest) (p : Option TableRef) (lo hi : ℕ) (e : E) → Cover t lo hi f → Memᴰ e (read p f) → Pends p e ⊎ Met is lo hi e
     unfolding table_reading Cover
     in-reading nil p lo hi e w m = inl (hand p e m)
     in-reading (token r rest) p lo hi e w m = in-reading rest p lo hi e w m
     in-reading (node r f rest) p lo hi e w m =
         go (eqb r.kind table_identifier) (eqb r.kind table_alias) (eqb r.kind table_expression) (eqb r.kind join_clause) refl refl refl refl
-        (λ n. ⊎_elim (λ x. absurd (idle e x)) (λ x. x) (in-reading f Nothing (r.index + 1) (stretch_end t r.index) e w.2 n))
+        (λ n. ⊎_elim (λ x. absurd (idle e x)) (λ x. x) (in-reading f None (r.index + 1) (stretch_end t r.index) e w.2 n))
         (λ q n. in-reading rest q lo hi e w.3 n) m
       where
         go : (a b c d : Bool) → eqb r.kind table_identifier ≡ a → eqb r.kind table_alias ≡ b → eqb r.kind table_expression ≡ c → eqb r.kind join_clause ≡ d
-            → (Memᴰ e (read Nothing f) → Met is (r.index + 1) (stretch_end t r.index) e)
-            → ((q : Pending) → Memᴰ e (read q rest) → Pends q e ⊎ Met is lo hi e)
+            → (Memᴰ e (read None f) → Met is (r.index + 1) (stretch_end t r.index) e)
+            → ((q : Option TableRef) → Memᴰ e (read q rest) → Pends q e ⊎ Met is lo hi e)
             → Memᴰ e (cond a (hand_on L p ++ read (fresh src r.index (direct is_part f)) rest)
             (cond b (list_alias L p (alias_in src r f) ++ read (aliased p (alias_in src r f)) rest)
-            (cond c (read Nothing f ++ read p rest) (cond d (hand_on L p ++ (read Nothing f ++ read Nothing rest)) (read p rest)))))
+            (cond c (read None f ++ read p rest) (cond d (hand_on L p ++ (read None f ++ read None rest)) (read p rest)))))
             → Pends p e ⊎ Met is lo hi e
         go true b c d x y z u down on m =
             ⊎_elim
@@ -197,14 +195,14 @@ module _ (t : List ℕ) where
             ⊎_elim
             (λ n. inr (met-in is lo hi r e w.0 (not-subquery (λ k. eqb k table_expression) r.kind z refl) (down n)))
             (on p)
-            (Memᴰ.append_cases (read Nothing f) m)
+            (Memᴰ.append_cases (read None f) m)
         go false false false true x y z u down on m =
             ⊎_elim
             (λ n. inl (hand p e n))
             (λ n.
             ⊎_elim
             (λ i. inr (met-in is lo hi r e w.0 (not-subquery (λ k. eqb k join_clause) r.kind u refl) (down i)))
-            (λ i. ⊎_elim (λ j. absurd (idle e j)) inr (on Nothing i))
-            (Memᴰ.append_cases (read Nothing f) n))
+            (λ i. ⊎_elim (λ j. absurd (idle e j)) inr (on None i))
+            (Memᴰ.append_cases (read None f) n))
             (Memᴰ.append_cases (hand_on L p) m)
         go false false false false x y z u down on m = on p m

@@ -9,13 +9,13 @@ use mathlib.Core.Logic.{◌⊎◌, inl, inr, ⊎_elim}
 use native.Mathlib.Omega.{arith}
 use borrow.Author.Tests.{eqb-true, ltb-true}
 use lib.Dec.{eqb, ltb}
+use Rattle.std.specs.Prelude.{Some}
 use Rattle.records.specs.Kinds.{with_clause, with_expression_item, column_list}
 use Rattle.records.specs.Table.{count, depth_at, kind_at}
 use Rattle.forest.specs.Forest.{Forest, nil, token, node, stretch_end, inside}
 use Rattle.forest.specs.Sense.{Tidy}
 use Rattle.forest.proofs.Reaches.{reaches-yes}
 use Rattle.names.specs.declared.names.NameBinding.{NameBinding}
-use Rattle.names.specs.declared.names.Bound.TheVariants.{Named}
 use Rattle.names.specs.Names.{with_item}
 use Rattle.names.specs.Bindings.{entry}
 use Rattle.lists.specs.Scope.{with_names}
@@ -134,7 +134,7 @@ module _ (t : List ℕ) where
       item : Item
       behind : List Item
       whole : is ≡ before ++ item ∷ behind
-      named : with_item src item.self item.below ≡ Named e
+      named : with_item src item.self item.below ≡ Some e
       holds_not : (i : Item) → Memᴰ i (before ++ item ∷ []) → stands_below t i.self.index n ≡ false
 
     bound-before : (is : List Item) (e : NameBinding) → Memᴰ e (bound_by src (items_before t n is)) → NamedIn is e

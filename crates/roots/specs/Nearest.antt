@@ -1,14 +1,13 @@
 -- Whose an offered name is: the nearest root of the record that it stands at, said of the table's records.
 -- t is the table's bytes, src the source's, o an offset, n and m the numbers of roots, x and y of records.
 -- Definitions only; the theorems are in proofs/DeepestQuery.antt, proofs/Entries.antt and proofs/SeenRoots.antt.
-use Rattle.std.specs.Prelude.{ℕ, ◌≡◌, Bool, true, false, ◌||◌, ◌⊎◌, eqb}
+use Rattle.std.specs.Prelude.{ℕ, ◌≡◌, Bool, true, false, ◌||◌, ◌⊎◌, eqb, Some}
 use mathlib.Core.List.{List, [], ◌∷◌, ◌++◌, Memᴰ}
 use Rattle.records.specs.declared.record.Rec.{Rec}
 use Rattle.records.specs.Kinds.{with_clause, with_expression_item, table_identifier, table_alias, column_alias}
 use Rattle.records.specs.Table.{kind_at, record_at}
 use Rattle.forest.specs.Forest.{Forest, inside}
 use Rattle.names.specs.declared.names.NameBinding.{NameBinding}
-use Rattle.names.specs.declared.names.Bound.TheVariants.{Named}
 use Rattle.names.specs.Names.{with_item, alias_in}
 use Rattle.references.specs.declared.pending.TableRef.{TableRef}
 use Rattle.tables.specs.Tables.{references, aliases}
@@ -64,11 +63,11 @@ pub record EntryOf {E : Type 0} (own : ℕ → Forest → List E) (is : E → Re
 
 -- the table alias e stands at a TableAlias, which names it
 abbrev pub alias_at : List ℕ → NameBinding → Rec → Forest → Type 0
-alias_at src e r below = (r.kind ≡ table_alias) × (alias_in src r below ≡ Named e)
+alias_at src e r below = (r.kind ≡ table_alias) × (alias_in src r below ≡ Some e)
 
 -- the column alias e stands at a ColumnAlias, which names it
 abbrev pub column_at : List ℕ → NameBinding → Rec → Forest → Type 0
-column_at src e r below = (r.kind ≡ column_alias) × (alias_in src r below ≡ Named e)
+column_at src e r below = (r.kind ≡ column_alias) × (alias_in src r below ≡ Some e)
 
 -- the reference e stands at the TableIdentifier whose number it has
 abbrev pub reference_at : TableRef → Rec → Forest → Type 0
@@ -76,7 +75,7 @@ reference_at e r below = (r.kind ≡ table_identifier) × (r.index ≡ e.«recor
 
 -- the WITH name e stands at a WithExpressionItem, which names it
 abbrev pub item_at : List ℕ → NameBinding → Rec → Forest → Type 0
-item_at src e r below = (r.kind ≡ with_expression_item) × (with_item src r below ≡ Named e)
+item_at src e r below = (r.kind ≡ with_expression_item) × (with_item src r below ≡ Some e)
 
 -- the four sorts of entries: a FROM or JOIN gives table aliases and references, a SELECT column aliases, a WITH its names
 abbrev pub TableAliasOf : List ℕ → List ℕ → ℕ → NameBinding → Type 0
@@ -104,7 +103,7 @@ pub record SeenFrom (src t : List ℕ) (n m : ℕ) (e : NameBinding) : Type 0 wh
   pub item : Item
   pub behind : List Item
   pub whole : items (inside t clause) ≡ before ++ item ∷ behind
-  pub named : with_item src item.self item.below ≡ Named e
+  pub named : with_item src item.self item.below ≡ Some e
   pub item-root : NearestRoot t m item.self.index
   pub holds_not : (i : Item) → Memᴰ i (before ++ item ∷ []) → stands_below t i.self.index n ≡ false
 

@@ -4,21 +4,20 @@ use Prim.Native.Nat.{ℕ}
 use mathlib.Core.Path.{◌≡◌, refl, sym, ap, ◌∙◌}
 use mathlib.Core.Bool.{Bool, true, false, cond}
 use mathlib.Core.List.{List, [], ◌∷◌, map, reverse, reverse-cons, reverse-reverse}
-use mathlib.Core.Option.{none, some}
 use lib.Dec.{eqb}
+use Rattle.std.specs.Prelude.{None, Some}
 use Rattle.records.specs.declared.record.Rec.{Rec}
 use Rattle.records.specs.Kinds.{opening_round, opening_square, opening_curly}
 use Rattle.records.specs.Table.{records}
 use Rattle.forest.specs.Forest.{Forest, nil, token, node, kids}
 use Rattle.text.specs.Text.{bytes_of}
-use Rattle.brackets.specs.declared.bracket_matching.Hint.TheVariants.{Opener, NoOpener}
 use Rattle.brackets.specs.Brackets.{fits, closed, stack_step, left, stack_left, index_of, holding, last_opener, hint_of}
 use Rattle.path.specs.Path.{one_of}
 use Rattle.rust.specs.Rust.{push, last, pop, find}
 use Rattle.rust.specs.BracketMatchingRs.{matches, pop_matching, bracket, collect_brackets, closer, find_opener, enrich, hint, BracketMatchingRs}
 use Rattle.rust.proofs.KindLists.{range-list}
 
-last-push : {A : Type 0} (xs : List A) (x : A) → last (push xs x) ≡ some x
+last-push : {A : Type 0} (xs : List A) (x : A) → last (push xs x) ≡ Some x
 unfolding last
 last-push [] x = refl
 last-push (y ∷ []) x = refl
@@ -66,7 +65,7 @@ find-same k [] = refl
 find-same k (o ∷ s) = go (eqb o.kind k) (find-same k s)
   where
     go : (b : Bool) → hint (find (λ (b : Rec). eqb b.kind k) s) ≡ last_opener k s
-        → hint (cond b (some o) (find (λ (b : Rec). eqb b.kind k) s)) ≡ cond b (Opener o.index) (last_opener k s)
+        → hint (cond b (Some o) (find (λ (b : Rec). eqb b.kind k) s)) ≡ cond b (Some o.index) (last_opener k s)
     go true ih = refl
     go false ih = ih
 
@@ -75,11 +74,11 @@ unfolding closer hint_of find_opener hint
 hint-same m s =
     go (holding (bytes_of "expected )") m) (holding (bytes_of "expected ]") m) (holding (bytes_of "expected }") m)
   where
-    opener : (k : ℕ) → hint (find_opener (reverse s) (some k)) ≡ last_opener k s
+    opener : (k : ℕ) → hint (find_opener (reverse s) (Some k)) ≡ last_opener k s
     opener k = rw (reverse-reverse s) (find-same k s)
 
-    go : (a b c : Bool) → hint (find_opener (reverse s) (cond a (some opening_round) (cond b (some opening_square) (cond c (some opening_curly) none))))
-        ≡ cond a (last_opener opening_round s) (cond b (last_opener opening_square s) (cond c (last_opener opening_curly s) NoOpener))
+    go : (a b c : Bool) → hint (find_opener (reverse s) (cond a (Some opening_round) (cond b (Some opening_square) (cond c (Some opening_curly) None))))
+        ≡ cond a (last_opener opening_round s) (cond b (last_opener opening_square s) (cond c (last_opener opening_curly s) None))
     go true b c = opener opening_round
     go false true c = opener opening_square
     go false false true = opener opening_curly

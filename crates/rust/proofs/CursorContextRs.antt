@@ -5,40 +5,34 @@ use mathlib.Core.Path.{◌≡◌, refl, sym, ap, ◌∙◌}
 use mathlib.Core.Bool.{Bool, true, false, cond, not, ◌&&◌, ◌||◌}
 use mathlib.Core.List.{List, [], ◌∷◌, ◌++◌, map, reverse, reverse_aux, append-nil, append_assoc}
 use mathlib.Core.Logic.{⊎_elim}
-use mathlib.Core.Option.{Option, none, some}
 use native.Mathlib.Omega.{arith}
 use borrow.Author.Tests.{lt-ltb, le-ltb, le-leb, lt-leb, eq-eqb}
 use lib.Dec.{leb, ltb, eqb}
 use lib.ListN.{length}
+use Rattle.std.specs.Prelude.{Option, None, Some, option_map, unwrap_or, Ok}
+use Rattle.records.specs.declared.range.Range.{Range}
 use Rattle.records.specs.declared.record.Rec.{Rec}
-use Rattle.lent.specs.declared.verdict.Verdict.TheVariants.{Admitted}
-use Rattle.records.specs.Table.{count, kind_at, record_at, records}
+use Rattle.records.specs.Table.{kind_at, record_at, records}
 use Rattle.forest.specs.Forest.{Forest, nil, token, node, kids, inside}
 use Rattle.table.specs.Rules.{verdict}
 use Rattle.forest.specs.Sense.{Tidy}
 use Rattle.forest.specs.inner.Scan.{Reading, fold, of_tokens}
 use Rattle.forest.specs.Descent.{path as way, path_of, along}
-use Rattle.text.specs.Text.{text, bytes_of}
+use Rattle.text.specs.Text.{bytes_of}
 use Rattle.lent.proofs.Cases.{lt-or-le}
 use Rattle.forest.proofs.Laws.{from_cons}
 use Rattle.forest.proofs.Scans.{fold-tokens}
 use Rattle.forest.proofs.Sense.{admitted-tidy}
 use Rattle.records.specs.Ranges.{holds, span}
 use Rattle.roots.proofs.Counts.{decide}
-use Rattle.tokens.specs.declared.last_token.Name.{Name}
-use Rattle.tokens.specs.declared.last_token.Name.TheVariants.{Nameless, Named}
 use Rattle.tokens.specs.declared.last_token.LastTwo.{LastTwo}
-use Rattle.tokens.specs.declared.function.Arguments.{Arguments}
 use Rattle.contexts.specs.declared.trailing.Clause.{Clause}
-use Rattle.contexts.specs.declared.trailing.Clause.TheVariants.{NoClause, Ends}
-use Rattle.contexts.specs.declared.context.Answer.{Answer}
-use Rattle.contexts.specs.declared.context.Answer.TheVariants.{GoOn, Given}
 use Rattle.path.specs.Path.{Next, Deepest, Above}
 use Rattle.contexts.specs.declared.context.CursorContext.{CursorContext}
 use Rattle.contexts.specs.declared.context.CursorContext.TheVariants.{SelectExpression, TableReference, Expression, SettingName, EngineName, FormatName, DataType, CodecName, StatementStart, Unknown}
 use Rattle.path.specs.Path.{path_at, one_of, deepest_or, deepest, on_path, trails, next_of, is_deepest, deepest_over}
 use Rattle.tokens.specs.LastToken.{named, counted, entered, reading, last_or, init, last_two, is_text, dot, dotted, is_join_word, is_word as is_word_in}
-use Rattle.tokens.specs.Function.{bare_word_in, or_name, function_name, opens, argued, arguments}
+use Rattle.tokens.specs.Function.{bare_word_in, or_name, function_name, opens, argued, arguments, argument_index}
 use Rattle.contexts.specs.Trailing.{last_clause as last_clause_in, past_clause as past_kind, past_end, trailing_in, trailing_rule}
 use Rattle.contexts.specs.PathRules.{Seen, table_reference, joined, function_argument, column_or, column, path_rules, ruled, else_ask, seen, by_path, path_rule}
 use Rattle.cursor.specs.CursorContext.{starts_after, last_rule, given_or, context_at}
@@ -58,10 +52,10 @@ module _ (src : List ℕ) (o : ℕ) where
   abbrev enters : Rec → Bool
   enters r = entered o r.start r.end
 
-  abbrev naming : Name → Rec → Name
+  abbrev naming : Option Range → Rec → Option Range
   naming n r = named r
 
-  abbrev lasting : Reading Name
+  abbrev lasting : Reading (Option Range)
   lasting = of_tokens naming counts enters
 
   -- what is found from best on
@@ -74,7 +68,7 @@ module _ (src : List ℕ) (o : ℕ) where
   before-fold (token r rest) k best w = rw w.0.text (go (skipped r.kind) (leb r.start o) (λ b. before-fold rest k b w.1))
     where
       go : (s l : Bool) → ((b : Option Before) → Gives (token_before_impl rest src o k b) (Found b rest))
-          → Gives (cond s (token_before_impl rest src o k best) (cond l (token_before_impl rest src o k (some (record { text = span r; parent = k }))) (token_before_impl rest src o k best)))
+          → Gives (cond s (token_before_impl rest src o k best) (cond l (token_before_impl rest src o k (Some (record { text = span r; parent = k }))) (token_before_impl rest src o k best)))
           (λ c. text_name c ≡ fold lasting (cond (l && not s) (named r) (text_name best)) rest)
       go true true ih = ih best
       go true false ih = ih best
@@ -86,17 +80,17 @@ module _ (src : List ℕ) (o : ℕ) where
           → Gives (cond e (token_before_impl rest src o k best) (cond l (token_before_impl below src o r.kind best >>= (λ b. token_before_impl rest src o k b)) (token_before_impl rest src o k best)))
           (λ c. text_name c ≡ fold lasting (cond (not e && l) (fold lasting (text_name best) below) (text_name best)) rest)
       go true l ib ir = ir best
-      go false true ib ir = gives_then _ ib (λ b e. gives_so (λ c q. q ∙ ap (λ (n : Name). fold lasting n rest) e) (ir b))
+      go false true ib ir = gives_then _ ib (λ b e. gives_so (λ c q. q ∙ ap (λ (n : Option Range). fold lasting n rest) e) (ir b))
       go false false ib ir = ir best
 
-  along-last : (n : Name) (l : List Rec) → along naming n l ≡ last_or n l
+  along-last : (n : Option Range) (l : List Rec) → along naming n l ≡ last_or n l
   unfolding along last_or
   along-last n [] = refl
   along-last n (r ∷ l) = along-last (named r) l
 
   before_same : (r : Rec) (f : Forest) → Reads src f → Gives (token_before_offset r f src o) (λ b. text_name b ≡ (last_two o f).last)
   unfolding token_before_offset last_two text_name
-  before_same r f w = gives_so (λ b e. e ∙ fold-tokens naming counts enters f Nameless ∙ along-last Nameless (reading o f)) (before-fold f r.kind none w)
+  before_same r f w = gives_so (λ b e. e ∙ fold-tokens naming counts enters f None ∙ along-last None (reading o f)) (before-fold f r.kind None w)
 
   -- ---- the two before it
 
@@ -132,7 +126,7 @@ module _ (src : List ℕ) (o : ℕ) where
       gone false ih l = record { it = p; gave = refl; so = sym l }
 
       go : (s : Bool) → ((q : Prev) → Gives (find_ident_before_dot_impl rest src o q) (FoundTwo q rest))
-          → Gives (cond s (find_ident_before_dot_impl rest src o p) (find_ident_before_dot_impl rest src o (record { prev_prev = p.prev; prev = Named (span r) })))
+          → Gives (cond s (find_ident_before_dot_impl rest src o p) (find_ident_before_dot_impl rest src o (record { prev_prev = p.prev; prev = Some (span r) })))
           (λ q. two_of q ≡ fold lasting_two (cond (not s) (pushing (two_of p) r) (two_of p)) rest)
       go true ih = ih p
       go false ih = ih _
@@ -146,19 +140,19 @@ module _ (src : List ℕ) (o : ℕ) where
       go false true ib ir = gives_then _ ib (λ q e. gives_so (λ z y. y ∙ ap (λ (s : LastTwo). fold lasting_two s rest) e) (ir q))
       go false false ib ir = ir p
 
-  two-along : (l b : Name) (r : Rec) (xs : List Rec)
+  two-along : (l b : Option Range) (r : Rec) (xs : List Rec)
       → along pushing (record { last = l; before = b }) (r ∷ xs) ≡ record { last = last_or l (r ∷ xs); before = last_or l (init (r ∷ xs)) }
   unfolding along last_or init
   two-along l b r [] = refl
   two-along l b r (q ∷ xs) = two-along (named r) l q xs
 
-  two-same : (xs : List Rec) → along pushing (record { last = Nameless; before = Nameless }) xs ≡ record { last = last_or Nameless xs; before = last_or Nameless (init xs) }
+  two-same : (xs : List Rec) → along pushing (record { last = None; before = None }) xs ≡ record { last = last_or None xs; before = last_or None (init xs) }
   unfolding along last_or init
   two-same [] = refl
-  two-same (r ∷ xs) = two-along Nameless Nameless r xs
+  two-same (r ∷ xs) = two-along None None r xs
 
   abbrev unread : Prev
-  unread = record { prev_prev = Nameless; prev = Nameless }
+  unread = record { prev_prev = None; prev = None }
 
   ident-two : (f : Forest) → Reads src f → Rises f → Gives (find_ident_before_dot_impl f src o unread) (λ q. two_of q ≡ last_two o f)
   unfolding last_two
@@ -168,9 +162,9 @@ module _ (src : List ℕ) (o : ℕ) where
   unfolding dotted
   dot-same two = go two.last
     where
-      go : (n : Name) → before_dot src two.before n ≡ cond (is_text dot src n) two.before Nameless
-      go Nameless = unfold before_dot is_text in refl
-      go (Named r) = unfold before_dot is_text bytes_of in refl
+      go : (n : Option Range) → before_dot src two.before n ≡ cond (is_text dot src n) two.before None
+      go None = unfold before_dot is_text in refl
+      go (Some r) = unfold before_dot is_text bytes_of in refl
 
   identifier-same : (f : Forest) → Reads src f → Rises f → find_identifier_before_dot f src o ≡ gives (dotted src (last_two o f))
   unfolding find_identifier_before_dot
@@ -178,13 +172,13 @@ module _ (src : List ℕ) (o : ℕ) where
 
   word_same : (w : List ℕ) (b : Option Before) → text_is w src b ≡ is_text w src (text_name b)
   unfolding text_is is_text text_name
-  word_same w none = refl
-  word_same w (some b) = refl
+  word_same w None = refl
+  word_same w (Some b) = refl
 
   says_same : (w : List ℕ) (b : Option Before) → says_word w src b ≡ is_word_in w src (text_name b)
   unfolding says_word is_word_in text_name
-  says_same w none = refl
-  says_same w (some b) = refl
+  says_same w None = refl
+  says_same w (Some b) = refl
 
   module _ (n : PathNode) (x : Reads src n.children) (w : Rises n.children) where
     abbrev two : LastTwo
@@ -200,16 +194,16 @@ module _ (src : List ℕ) (o : ℕ) where
         then_is _ dot_before.gave ∙ rw (dot_before.so, then_is (λ db. gives (TableReference db)) (identifier-same n.children x w)) (tested (is_text dot src two.last) two.before)
       where
         -- a name that is there only where the test holds
-        tested : (b : Bool) (y : Name) → cond b (gives (TableReference (cond b y Nameless))) (gives (TableReference Nameless)) ≡ gives (TableReference (cond b y Nameless))
+        tested : (b : Bool) (y : Option Range) → cond b (gives (TableReference (cond b y None))) (gives (TableReference None)) ≡ gives (TableReference (cond b y None))
         tested true y = refl
         tested false y = refl
 
-    access-same : check_dot_access n src o ≡ gives (cond (is_text dot src two.last) (column_of two.before) none)
+    access-same : check_dot_access n src o ≡ gives (cond (is_text dot src two.last) (column_of two.before) None)
     unfolding check_dot_access dotted
     access-same =
         then_is _ dot_before.gave ∙ rw (dot_before.so, then_is (λ q. gives (column_of q)) (identifier-same n.children x w)) (tested (is_text dot src two.last) two.before)
       where
-        tested : (b : Bool) (y : Name) → cond b (gives (column_of (cond b y Nameless))) (gives none) ≡ gives (cond b (column_of y) none)
+        tested : (b : Bool) (y : Option Range) → cond b (gives (column_of (cond b y None))) (gives None) ≡ gives (cond b (column_of y) None)
         tested true y = refl
         tested false y = refl
 
@@ -217,9 +211,9 @@ module _ (src : List ℕ) (o : ℕ) where
     unfolding expression_arm dotted column_or return_or column_of
     dot-access other = then_is _ access-same ∙ go (is_text dot src two.last) two.before
       where
-        go : (b : Bool) (y : Name) → return_or (cond b (column_of y) none) (gives other) ≡ gives (column_or other (cond b y Nameless))
-        go true Nameless = refl
-        go true (Named r) = refl
+        go : (b : Bool) (y : Option Range) → return_or (cond b (column_of y) None) (gives other) ≡ gives (column_or other (cond b y None))
+        go true None = refl
+        go true (Some r) = refl
         go false y = refl
 
 -- ---- a function's argument
@@ -229,7 +223,7 @@ module _ (src : List ℕ) where
   unfolding return_text shortened
   text_same t e = then_is _ e
 
-  bare-same : (f : Forest) (on : Name) (run : Call Name) → Reads src f → run ≡ gives (shortened on) → first_bare_word f src run ≡ gives (shortened (or_name (bare_word_in f) on))
+  bare-same : (f : Forest) (on : Option Range) (run : Call (Option Range)) → Reads src f → run ≡ gives (shortened on) → first_bare_word f src run ≡ gives (shortened (or_name (bare_word_in f) on))
   unfolding first_bare_word bare_word_in or_name Reads
   bare-same nil on run w e = e
   bare-same (token r rest) on run w e = rw (text_same r w.0.text) (go (eqb r.kind 131) (bare-same rest on run w.1 e))
@@ -245,7 +239,7 @@ module _ (src : List ℕ) where
   name-same nil w = unfold shortened in refl
   name-same (token r rest) w = rw (text_same r w.0.text, name-same rest w.1) (go (eqb r.kind 131) (eqb r.kind 137))
     where
-      go : (a b : Bool) → cond a (gives (shortened (named r))) (cond b (gives Nameless) (gives (shortened (function_name rest)))) ≡ gives (shortened (cond a (named r) (cond b Nameless (function_name rest))))
+      go : (a b : Bool) → cond a (gives (shortened (named r))) (cond b (gives None) (gives (shortened (function_name rest)))) ≡ gives (shortened (cond a (named r) (cond b None (function_name rest))))
       go true b = refl
       go false true = unfold shortened in refl
       go false false = refl
@@ -258,10 +252,10 @@ module _ (src : List ℕ) where
       go false = refl
 
 module _ (o : ℕ) where
-  abbrev args_of : Commas → Arguments
-  args_of c = record { met = c.inside_parens; index = c.count }
+  abbrev args_of : Commas → Option ℕ
+  args_of c = cond c.inside_parens (Some c.count) None
 
-  abbrev arguing : Arguments → Rec → Arguments
+  abbrev arguing : Option ℕ → Rec → Option ℕ
   arguing a r = argued a r.kind
 
   abbrev before : Rec → Bool
@@ -270,7 +264,7 @@ module _ (o : ℕ) where
   abbrev opening : Rec → Bool
   opening r = opens r.kind r.start r.end
 
-  abbrev counting : Reading Arguments
+  abbrev counting : Reading (Option ℕ)
   counting = of_tokens arguing before opening
 
   abbrev step : ℕ → Commas → Commas
@@ -284,11 +278,42 @@ module _ (o : ℕ) where
     where
       go : (a b i : Bool) → c.inside_parens ≡ i
           → args_of (cond a (record { count = 0; inside_parens = true }) (cond (b && i) (record { count = c.count + 1; inside_parens = c.inside_parens }) c))
-          ≡ cond a (record { met = true; index = 0 }) (cond (b && i) (record { met = true; index = c.count + 1 }) (args_of c))
+          ≡ cond a (Some 0) (cond b (option_map (λ n. n + 1) (args_of c)) (args_of c))
       go true b i e = refl
       go false true true e = rw e
-      go false true false e = refl
+      go false true false e = rw e
       go false false i e = refl
+
+  -- before the first `(` nothing is counted
+  abbrev Counted : Commas → Type 0
+  Counted c = c.count ≡ unwrap_or (args_of c) 0
+
+  counted-step : (k : ℕ) (c : Commas) → Counted c → Counted (step k c)
+  counted-step k c h = go (eqb k 137) (eqb k 136) c.inside_parens refl
+    where
+      go : (a b i : Bool) → c.inside_parens ≡ i
+          → Counted (cond a (record { count = 0; inside_parens = true }) (cond (b && i) (record { count = c.count + 1; inside_parens = c.inside_parens }) c))
+      go true b i e = refl
+      go false true true e = rw e
+      go false true false e = h
+      go false false i e = h
+
+  counted-all : (f : Forest) (c : Commas) → Counted c → Counted (count_commas_impl f o c)
+  unfolding count_commas_impl
+  counted-all nil c h = h
+  counted-all (token r rest) c h = go (leb o r.start) (counted-all rest (step r.kind c) (counted-step r.kind c h))
+    where
+      go : (b : Bool) → Counted (count_commas_impl rest o (step r.kind c)) → Counted (cond b c (count_commas_impl rest o (step r.kind c)))
+      go true p = h
+      go false p = p
+  counted-all (node r below rest) c h =
+      go (ltb r.end r.start) (eqb r.kind 43 || eqb r.kind 44) (counted-all rest c h) (counted-all rest (count_commas_impl below o c) (counted-all below c h))
+    where
+      go : (e x : Bool) → Counted (count_commas_impl rest o c) → Counted (count_commas_impl rest o (count_commas_impl below o c))
+          → Counted (cond e (count_commas_impl rest o c) (cond x (count_commas_impl rest o c) (count_commas_impl rest o (count_commas_impl below o c))))
+      go true x p q = p
+      go false true p q = p
+      go false false p q = q
 
   late-comma : (b : ℕ) → o ≤ b → (r : Rec) → b ≤ r.start → before r ≡ false
   late-comma b h r g = le-ltb r.start o (omega arith)
@@ -300,7 +325,7 @@ module _ (o : ℕ) where
       ⊎_elim
       (λ (h : r.start < o).
       rw (lt-ltb r.start o h, lt-leb o r.start h)
-      (commas-fold rest (step r.kind c) w.1 ∙ ap (λ (a : Arguments). fold counting a rest) (step_same r.kind c)))
+      (commas-fold rest (step r.kind c) w.1 ∙ ap (λ (a : Option ℕ). fold counting a rest) (step_same r.kind c)))
       (λ (h : o ≤ r.start).
       rw (le-ltb r.start o h, le-leb o r.start h)
       (sym (fold-late arguing before opening r.start (late-comma r.start h) rest (args_of c) w.0)))
@@ -314,13 +339,13 @@ module _ (o : ℕ) where
           ≡ fold counting (cond (not e && not x) (fold counting (args_of c) below) (args_of c)) rest
       go true x ib ir = ir c
       go false true ib ir = ir c
-      go false false ib ir = ir _ ∙ ap (λ (a : Arguments). fold counting a rest) ib
+      go false false ib ir = ir _ ∙ ap (λ (a : Option ℕ). fold counting a rest) ib
 
-  commas-same : (f : Forest) → Rises f → count_commas_before f o ≡ (arguments o f).index
+  commas-same : (f : Forest) → Rises f → count_commas_before f o ≡ argument_index o f
   unfolding count_commas_before arguments
   commas-same f w =
-      ap (λ (a : Arguments). a.index)
-      (commas-fold f (record { count = 0; inside_parens = false }) w ∙ fold-tokens arguing before opening f (record { met = false; index = 0 }))
+      counted-all f (record { count = 0; inside_parens = false }) refl
+      ∙ ap (λ (a : Option ℕ). unwrap_or a 0) (commas-fold f (record { count = 0; inside_parens = false }) w ∙ fold-tokens arguing before opening f None)
 
 -- ---- the path
 
@@ -365,13 +390,9 @@ module _ (t : List ℕ) (o : ℕ) where
 
 -- ---- the trailing clause
 
-answer : Option CursorContext → Answer
-answer none = GoOn
-answer (some c) = Given c
-
-clause_of : Option Rec → Clause
-clause_of none = NoClause
-clause_of (some r) = Ends r.kind r.end
+clause_of : Option Rec → Option Clause
+clause_of None = None
+clause_of (Some r) = Some (record { kind = r.kind; end = r.end })
 
 clause-same : (o : ℕ) (f : Forest) (best : Option Rec) → clause_of (clause_before f o best) ≡ last_clause_in o (clause_of best) f
 unfolding clause_before last_clause_in clause_of
@@ -380,19 +401,19 @@ clause-same o (token r rest) best = clause-same o rest best
 clause-same o (node r below rest) best = go (leb r.start o) (clause-same o rest)
   where
     go : (b : Bool) → ((x : Option Rec) → clause_of (clause_before rest o x) ≡ last_clause_in o (clause_of x) rest)
-        → clause_of (clause_before rest o (cond b (some r) best)) ≡ last_clause_in o (cond b (Ends r.kind r.end) (clause_of best)) rest
+        → clause_of (clause_before rest o (cond b (Some r) best)) ≡ last_clause_in o (cond b (Some (record { kind = r.kind; end = r.end })) (clause_of best)) rest
     go true ih = ih _
     go false ih = ih best
 
-trailing-same : (k : ℕ) → answer (trailing k) ≡ past_kind k
-unfolding trailing past_kind answer
+trailing-same : (k : ℕ) → trailing k ≡ past_kind k
+unfolding trailing past_kind
 trailing-same k =
     decide k 20 (λ e. rw e)
     (λ g. decide k 22 (λ e. rw e) (λ h. rw (g, h) (go (eqb k 18) (eqb k 19) (eqb k 21) (eqb k 16) (eqb k 15) (eqb k 23) (eqb k 26))))
   where
     go : (p w h f s st fo : Bool)
-        → answer (cond (h || (w || (p || false))) (some Expression) (cond f (some (TableReference Nameless)) (cond s (some SelectExpression) (cond st (some SettingName) (cond fo (some FormatName) none)))))
-        ≡ cond (p || (w || (h || false))) (Given Expression) (cond f (Given (TableReference Nameless)) (cond s (Given SelectExpression) (cond st (Given SettingName) (cond fo (Given FormatName) GoOn))))
+        → (cond (h || (w || (p || false))) (Some Expression) (cond f (Some (TableReference None)) (cond s (Some SelectExpression) (cond st (Some SettingName) (cond fo (Some FormatName) None)))))
+        ≡ cond (p || (w || (h || false))) (Some Expression) (cond f (Some (TableReference None)) (cond s (Some SelectExpression) (cond st (Some SettingName) (cond fo (Some FormatName) None))))
     go true true true f s st fo = refl
     go true true false f s st fo = refl
     go true false true f s st fo = refl
@@ -406,10 +427,10 @@ trailing-same k =
     go false false false false false false true = refl
     go false false false false false false false = refl
 
-past_same : (o : ℕ) (c : Option Rec) → answer (clause_gives o c) ≡ past_end o (clause_of c)
-unfolding clause_gives past_end clause_of answer
-past_same o none = refl
-past_same o (some r) =
+past_same : (o : ℕ) (c : Option Rec) → clause_gives o c ≡ past_end o (clause_of c)
+unfolding clause_gives past_end clause_of
+past_same o None = refl
+past_same o (Some r) =
     ⊎_elim
     (λ (h : r.end < o). rw (lt-ltb r.end o h, lt-leb o r.end h) (trailing-same r.kind))
     (λ (h : o ≤ r.end). rw (le-ltb r.end o h, le-leb o r.end h))
@@ -417,8 +438,8 @@ past_same o (some r) =
 
 module _ (t : List ℕ) where
   picked : Option Rec → Option PathNode
-  picked none = none
-  picked (some r) = some (at t r)
+  picked None = None
+  picked (Some r) = Some (at t r)
 
   -- the first of a list read backwards is the deepest
   find-deepest : (p : List Rec) (above : List PathNode) (best : Option Rec) → find is_statement_like above ≡ picked best
@@ -426,33 +447,33 @@ module _ (t : List ℕ) where
   unfolding find deepest_or picked
   find-deepest [] above best e = e
   find-deepest (r ∷ p) above best e =
-      find-deepest p (at t r ∷ above) (cond (trails r.kind) (some r) best) (rw (← range-list 5 4 r.kind) (go (trails r.kind)))
+      find-deepest p (at t r ∷ above) (cond (trails r.kind) (Some r) best) (rw (← range-list 5 4 r.kind) (go (trails r.kind)))
     where
-      go : (b : Bool) → cond b (some (at t r)) (find is_statement_like above) ≡ picked (cond b (some r) best)
+      go : (b : Bool) → cond b (Some (at t r)) (find is_statement_like above) ≡ picked (cond b (Some r) best)
       go true = refl
       go false = e
 
-  trailing-rule : (o : ℕ) (p : List Rec) → answer (check_trailing_clause (map (at t) p) o) ≡ trailing_rule t o p
-  unfolding check_trailing_clause trailing_of trailing_in picked clause_of answer
-  trailing-rule o p = rw (find-deepest p [] none (unfold find in refl)) (go (deepest trails p))
+  trailing-rule : (o : ℕ) (p : List Rec) → check_trailing_clause (map (at t) p) o ≡ trailing_rule t o p
+  unfolding check_trailing_clause trailing_of trailing_in picked clause_of
+  trailing-rule o p = rw (find-deepest p [] None (unfold find in refl)) (go (deepest trails p))
     where
-      go : (x : Option Rec) → answer (trailing_of o (picked x)) ≡ trailing_in t o x
-      go none = refl
-      go (some r) = past_same o (clause_before (inside t r.index) o none) ∙ ap (past_end o) (clause-same o (inside t r.index) none)
+      go : (x : Option Rec) → trailing_of o (picked x) ≡ trailing_in t o x
+      go None = refl
+      go (Some r) = past_same o (clause_before (inside t r.index) o None) ∙ ap (past_end o) (clause-same o (inside t r.index) None)
 
 -- ---- as the Rust tells it
 
-told_answer : Answer → Answer
-told_answer GoOn = GoOn
-told_answer (Given c) = Given (as_told c)
+told_answer : Option CursorContext → Option CursorContext
+told_answer None = None
+told_answer (Some c) = Some (as_told c)
 
 past-told : (k : ℕ) → told_answer (past_kind k) ≡ past_kind k
 unfolding past_kind
 past-told k = go (one_of (18 ∷ 19 ∷ 20 ∷ 21 ∷ 22 ∷ []) k) (eqb k 16) (eqb k 15) (eqb k 23) (eqb k 26)
   where
     go : (e f s st fo : Bool)
-        → told_answer (cond e (Given Expression) (cond f (Given (TableReference Nameless)) (cond s (Given SelectExpression) (cond st (Given SettingName) (cond fo (Given FormatName) GoOn)))))
-        ≡ cond e (Given Expression) (cond f (Given (TableReference Nameless)) (cond s (Given SelectExpression) (cond st (Given SettingName) (cond fo (Given FormatName) GoOn))))
+        → told_answer (cond e (Some Expression) (cond f (Some (TableReference None)) (cond s (Some SelectExpression) (cond st (Some SettingName) (cond fo (Some FormatName) None)))))
+        ≡ cond e (Some Expression) (cond f (Some (TableReference None)) (cond s (Some SelectExpression) (cond st (Some SettingName) (cond fo (Some FormatName) None))))
     go true f s st fo = unfold told_answer as_told in refl
     go false true s st fo = unfold told_answer as_told in refl
     go false false true st fo = unfold told_answer as_told in refl
@@ -464,17 +485,17 @@ trailing-told : (t : List ℕ) (o : ℕ) (p : List Rec) → told_answer (trailin
 unfolding trailing_in past_end told_answer
 trailing-told t o p = go (deepest trails p)
   where
-    over : (c : Clause) → told_answer (past_end o c) ≡ past_end o c
-    over NoClause = refl
-    over (Ends k e) = at (ltb e o)
+    over : (c : Option Clause) → told_answer (past_end o c) ≡ past_end o c
+    over None = refl
+    over (Some c) = at (ltb c.end o)
       where
-        at : (b : Bool) → told_answer (cond b (past_kind k) GoOn) ≡ cond b (past_kind k) GoOn
-        at true = past-told k
+        at : (b : Bool) → told_answer (cond b (past_kind c.kind) None) ≡ cond b (past_kind c.kind) None
+        at true = past-told c.kind
         at false = refl
 
     go : (x : Option Rec) → told_answer (trailing_in t o x) ≡ trailing_in t o x
-    go none = refl
-    go (some r) = over (last_clause_in o NoClause (inside t r.index))
+    go None = refl
+    go (Some r) = over (last_clause_in o None (inside t r.index))
 
 -- ---- the rules of the path
 
@@ -486,7 +507,7 @@ unfolding find on_path met
 met-path t [] above = refl
 met-path t (r ∷ p) above = met-path t p (at t r ∷ above) ∙ go (eqb r.kind 28) (on_path 28 p)
   where
-    go : (a b : Bool) → b || met (cond a (some (at t r)) (find is_constraint above)) ≡ (a || b) || met (find is_constraint above)
+    go : (a b : Bool) → b || met (cond a (Some (at t r)) (find is_constraint above)) ≡ (a || b) || met (find is_constraint above)
     go true true = refl
     go true false = refl
     go false true = refl
@@ -524,42 +545,42 @@ clauses-same k = go (eqb k 18) (eqb k 19) (eqb k 20) (eqb k 21) (eqb k 22)
     go false false false false e = refl
 
 next_is : Option ℕ → Next
-next_is none = Deepest
-next_is (some k) = Above k
+next_is None = Deepest
+next_is (Some k) = Above k
 
 last-same : (x : Option ℕ) → is_last x ≡ is_deepest (next_is x)
 unfolding is_last is_deepest next_is
-last-same none = refl
-last-same (some k) = refl
+last-same None = refl
+last-same (Some k) = refl
 
 over-same : (k : ℕ) (x : Option ℕ) → is_last_or k x ≡ deepest_over k (next_is x)
 unfolding is_last_or deepest_over next_is
-over-same k none = refl
-over-same k (some l) = refl
+over-same k None = refl
+over-same k (Some l) = refl
 
 -- the arms and the rules, one after the other
 abbrev give : {P : Option CursorContext → Type 0} (c : Option CursorContext) → P c → Gives (gives c) P
 give c p = record { it = c; gave = refl; so = p }
 
-column-told : (other : CursorContext) (n : Name) → as_told other ≡ other → as_told (column_or other n) ≡ column_or other n
+column-told : (other : CursorContext) (n : Option Range) → as_told other ≡ other → as_told (column_or other n) ≡ column_or other n
 unfolding column_or as_told
-column-told other Nameless e = e
-column-told other (Named r) e = refl
+column-told other None e = e
+column-told other (Some r) e = refl
 
-module _ (ref join call call' : CursorContext) (dot : Name) (ref-told : as_told ref ≡ ref) (join-told : as_told join ≡ join) (call-told : as_told call' ≡ call) where
+module _ (ref join call call' : CursorContext) (dot : Option Range) (ref-told : as_told ref ≡ ref) (join-told : as_told join ≡ join) (call-told : as_told call' ≡ call) where
   chain : (e16 e17 e5 ss e25 fs ts e37 e39 ns e15 ws xs a b c : Bool)
       → Gives
-      (cond e16 (gives (some ref)) (cond e17 (gives (some join)) (cond e5 (cond a (gives (some ref)) (gives none)) (cond ss (gives (some SettingName)) (cond e25 (gives (some EngineName)) (cond fs (gives (some FormatName))
-      (cond ts (gives (some DataType)) (cond e37 (cond b (gives (some DataType)) (gives none)) (cond e39 (gives (some CodecName)) (cond ns (gives (some call)) (cond e15 (gives (some (column_or SelectExpression dot)))
-      (cond ws (gives (some (column_or Expression dot))) (cond xs (cond c (gives (some StatementStart)) (gives none)) (gives none))))))))))))))
-      (λ x. answer x ≡ told_answer
-      (cond (e16 || false) (Given ref) (cond (e17 || false) (Given join) (cond (e5 || false) (cond a (Given ref) GoOn) (cond ss (Given SettingName) (cond (e25 || false) (Given EngineName) (cond fs (Given FormatName)
-      (cond ts (Given DataType) (cond (e37 || false) (cond b (Given DataType) GoOn) (cond (e39 || false) (Given CodecName) (cond ns (Given call')
-      (cond (e15 || ws) (Given (column_or (cond e15 SelectExpression Expression) dot)) (cond xs (cond c (Given StatementStart) GoOn) GoOn)))))))))))))
-  unfolding answer told_answer as_told
-  chain true e17 e5 ss e25 fs ts e37 e39 ns e15 ws xs a b c = give _ (ap Given (sym ref-told))
-  chain false true e5 ss e25 fs ts e37 e39 ns e15 ws xs a b c = give _ (ap Given (sym join-told))
-  chain false false true ss e25 fs ts e37 e39 ns e15 ws xs true b c = give _ (ap Given (sym ref-told))
+      (cond e16 (gives (Some ref)) (cond e17 (gives (Some join)) (cond e5 (cond a (gives (Some ref)) (gives None)) (cond ss (gives (Some SettingName)) (cond e25 (gives (Some EngineName)) (cond fs (gives (Some FormatName))
+      (cond ts (gives (Some DataType)) (cond e37 (cond b (gives (Some DataType)) (gives None)) (cond e39 (gives (Some CodecName)) (cond ns (gives (Some call)) (cond e15 (gives (Some (column_or SelectExpression dot)))
+      (cond ws (gives (Some (column_or Expression dot))) (cond xs (cond c (gives (Some StatementStart)) (gives None)) (gives None))))))))))))))
+      (λ x. x ≡ told_answer
+      (cond (e16 || false) (Some ref) (cond (e17 || false) (Some join) (cond (e5 || false) (cond a (Some ref) None) (cond ss (Some SettingName) (cond (e25 || false) (Some EngineName) (cond fs (Some FormatName)
+      (cond ts (Some DataType) (cond (e37 || false) (cond b (Some DataType) None) (cond (e39 || false) (Some CodecName) (cond ns (Some call')
+      (cond (e15 || ws) (Some (column_or (cond e15 SelectExpression Expression) dot)) (cond xs (cond c (Some StatementStart) None) None)))))))))))))
+  unfolding told_answer as_told
+  chain true e17 e5 ss e25 fs ts e37 e39 ns e15 ws xs a b c = give _ (ap Some (sym ref-told))
+  chain false true e5 ss e25 fs ts e37 e39 ns e15 ws xs a b c = give _ (ap Some (sym join-told))
+  chain false false true ss e25 fs ts e37 e39 ns e15 ws xs true b c = give _ (ap Some (sym ref-told))
   chain false false true ss e25 fs ts e37 e39 ns e15 ws xs false b c = give _ refl
   chain false false false true e25 fs ts e37 e39 ns e15 ws xs a b c = give _ refl
   chain false false false false true fs ts e37 e39 ns e15 ws xs a b c = give _ refl
@@ -568,9 +589,9 @@ module _ (ref join call call' : CursorContext) (dot : Name) (ref-told : as_told 
   chain false false false false false false false true e39 ns e15 ws xs a true c = give _ refl
   chain false false false false false false false true e39 ns e15 ws xs a false c = give _ refl
   chain false false false false false false false false true ns e15 ws xs a b c = give _ refl
-  chain false false false false false false false false false true e15 ws xs a b c = give _ (ap Given (sym call-told))
-  chain false false false false false false false false false false true ws xs a b c = give _ (ap Given (sym (column-told SelectExpression dot refl)))
-  chain false false false false false false false false false false false true xs a b c = give _ (ap Given (sym (column-told Expression dot refl)))
+  chain false false false false false false false false false true e15 ws xs a b c = give _ (ap Some (sym call-told))
+  chain false false false false false false false false false false true ws xs a b c = give _ (ap Some (sym (column-told SelectExpression dot refl)))
+  chain false false false false false false false false false false false true xs a b c = give _ (ap Some (sym (column-told Expression dot refl)))
   chain false false false false false false false false false false false false true a b true = give _ refl
   chain false false false false false false false false false false false false true a b false = give _ refl
   chain false false false false false false false false false false false false false a b c = give _ refl
@@ -603,7 +624,7 @@ module _ (src : List ℕ) (o : ℕ) (p : List PathNode) (constrained : Bool) (co
       go false = refl
 
   arm_same : (next : Option ℕ) → Gives (arm n next p src o)
-      (λ c. answer c ≡ told_answer (ruled n.tree.kind (path_rules src o (record { kind = n.tree.kind; next = next_is next; children = n.children; constrained = constrained }))))
+      (λ c. c ≡ told_answer (ruled n.tree.kind (path_rules src o (record { kind = n.tree.kind; next = next_is next; children = n.children; constrained = constrained }))))
   unfolding arm returned ruled path_rules column ◌>>=◌
   arm_same next =
       rw (
@@ -626,34 +647,34 @@ module _ (src : List ℕ) (o : ℕ) (p : List PathNode) (constrained : Bool) (co
       (deepest_over 33 (next_is next)) (deepest_over 3 (next_is next)) (is_deepest (next_is next)))
 
 -- an Error has no rule
-error-none : (src : List ℕ) (o k : ℕ) (n : Seen) → k ≡ 3 → ruled k (path_rules src o n) ≡ GoOn
+error-none : (src : List ℕ) (o k : ℕ) (n : Seen) → k ≡ 3 → ruled k (path_rules src o n) ≡ None
 unfolding ruled path_rules
 error-none src o k n e = rw e
 
 -- a call that is made where an answer goes on
-give_or : Call CursorContext → Answer → Call CursorContext
-give_or on GoOn = on
-give_or on (Given c) = gives c
+give_or : Call CursorContext → Option CursorContext → Call CursorContext
+give_or on None = on
+give_or on (Some c) = gives c
 
-given_both : (x y : Answer) (on : Call CursorContext) → give_or (give_or on (told_answer y)) (told_answer x) ≡ give_or on (told_answer (else_ask x y))
+given_both : (x y : Option CursorContext) (on : Call CursorContext) → give_or (give_or on (told_answer y)) (told_answer x) ≡ give_or on (told_answer (else_ask x y))
 unfolding give_or told_answer else_ask
-given_both GoOn y on = refl
-given_both (Given c) y on = refl
+given_both None y on = refl
+given_both (Some c) y on = refl
 
-return-given : (x : Option CursorContext) (on : Call CursorContext) → return_or x on ≡ give_or on (answer x)
-unfolding return_or give_or answer
-return-given none on = refl
-return-given (some c) on = refl
+return-given : (x : Option CursorContext) (on : Call CursorContext) → return_or x on ≡ give_or on x
+unfolding return_or give_or
+return-given None on = refl
+return-given (Some c) on = refl
 
-give-told : (on : CursorContext) (x : Answer) → give_or (gives (as_told on)) (told_answer x) ≡ gives (as_told (given_or on x))
+give-told : (on : CursorContext) (x : Option CursorContext) → give_or (gives (as_told on)) (told_answer x) ≡ gives (as_told (given_or on x))
 unfolding give_or told_answer given_or
-give-told on GoOn = refl
-give-told on (Given c) = refl
+give-told on None = refl
+give-told on (Some c) = refl
 
 -- what is next below a node, where these are the deeper nodes
 kind_of : List Rec → Option ℕ
-kind_of [] = none
-kind_of (r ∷ rs) = some r.kind
+kind_of [] = None
+kind_of (r ∷ rs) = Some r.kind
 
 next-of : (p : List Rec) → next_is (kind_of p) ≡ next_of p
 unfolding next_is kind_of next_of
@@ -668,10 +689,10 @@ module _ (src t : List ℕ) (o : ℕ) {m : ℕ} (tidy : Tidy t m) (read : (i : �
   going = ancestors (map (at t) path) src o behind
 
   -- the answer of a rule, as the Rust tells it
-  abbrev ruling : Rec → List Rec → Answer
+  abbrev ruling : Rec → List Rec → Option CursorContext
   ruling r deeper = told_answer (ruled r.kind (path_rules src o (seen t constrained r deeper)))
 
-  one_up : (r : Rec) (deeper : List Rec) (above : List PathNode) → going (kind_of deeper) (at t r ∷ above) ≡ give_or (going (some r.kind) above) (ruling r deeper)
+  one_up : (r : Rec) (deeper : List Rec) (above : List PathNode) → going (kind_of deeper) (at t r ∷ above) ≡ give_or (going (Some r.kind) above) (ruling r deeper)
   unfolding ancestors give_or told_answer
   one_up r deeper above =
       decide r.kind 3
@@ -680,27 +701,27 @@ module _ (src t : List ℕ) (o : ℕ) {m : ℕ} (tidy : Tidy t m) (read : (i : �
       let g = arm_same src o (map (at t) path) constrained (met-same t path) (at t r) (read r.index) (inside-rises tidy r.index) (kind_of deeper) in
       rw e
       (then_is _ g.gave
-      ∙ return-given g.it (going (some r.kind) above)
-      ∙ ap (give_or (going (some r.kind) above))
+      ∙ return-given g.it (going (Some r.kind) above)
+      ∙ ap (give_or (going (Some r.kind) above))
       (g.so
       ∙ ap (λ (x : Next). told_answer (ruled r.kind (path_rules src o (record { kind = r.kind; next = x; children = inside t r.index; constrained = constrained })))) (next-of deeper))))
 
-  all_up : (p : List Rec) (above : List PathNode) → going none (reverse_aux (map (at t) p) above) ≡ give_or (going (kind_of p) above) (told_answer (by_path src t o constrained p))
+  all_up : (p : List Rec) (above : List PathNode) → going None (reverse_aux (map (at t) p) above) ≡ give_or (going (kind_of p) above) (told_answer (by_path src t o constrained p))
   unfolding by_path kind_of
   all_up [] above = unfold give_or told_answer in refl
   all_up (r ∷ p) above =
       all_up p (at t r ∷ above)
       ∙ ap (λ (c : Call CursorContext). give_or c (told_answer (by_path src t o constrained p))) (one_up r p above)
-      ∙ given_both (by_path src t o constrained p) _ (going (some r.kind) above)
+      ∙ given_both (by_path src t o constrained p) _ (going (Some r.kind) above)
 
 -- ---- the theorem
 
 starts-same : (src : List ℕ) (b : Option Before) → starts_next src b ≡ starts_after src (text_name b)
 unfolding starts_next starts_after text_name text_is is_text bytes_of
-starts-same src none = refl
-starts-same src (some b) = refl
+starts-same src None = refl
+starts-same src (Some b) = refl
 
-module _ (src t : List ℕ) (o : ℕ) (ok : verdict t (length src) 0 ≡ Admitted) (ask : Askable src t) where
+module _ (src t : List ℕ) (o : ℕ) (ok : verdict t (length src) 0 ≡ Ok tt) (ask : Askable src t) where
   tidy : Tidy t (length src)
   tidy = admitted-tidy t (length src) 0 ok
 
@@ -732,7 +753,7 @@ module _ (src t : List ℕ) (o : ℕ) (ok : verdict t (length src) 0 ≡ Admitte
   abbrev whole : List Rec
   whole = record_at t 0 0 ∷ deeper
 
-  by-path : ancestors (map (at t) whole) src o (fallback (map (at t) whole) src o) none (reverse (map (at t) whole)) ≡ gives (as_told (given_or (last_rule src t o) (path_rule src t o whole)))
+  by-path : ancestors (map (at t) whole) src o (fallback (map (at t) whole) src o) None (reverse (map (at t) whole)) ≡ gives (as_told (given_or (last_rule src t o) (path_rule src t o whole)))
   unfolding ancestors
   by-path =
       all_up src t o tidy (reads ok ask) whole (fallback (map (at t) whole) src o) whole []

@@ -6,15 +6,15 @@ use mathlib.Core.Path.{◌≡◌, refl, sym, ap, ◌∙◌}
 use mathlib.Core.Bool.{Bool, true, false, cond, ◌||◌}
 use mathlib.Core.List.{List, [], ◌∷◌, ◌++◌, map, map-append, append-nil, append_assoc}
 use mathlib.Core.Logic.{◌↔◌, ⊎_elim}
-use mathlib.Core.Option.{Option, none, some}
 use native.Mathlib.Omega.{arith}
 use native.Mathlib.Nat.{zero-add}
 use borrow.Author.Tests.{eq-eqb, ne_eqb, lt-ltb, le-ltb, le-leb, lt-leb}
 use lib.Dec.{ltb, eqb}
 use lib.ListN.{length}
+use Rattle.references.specs.declared.pending.TableRef.{TableRef}
+use Rattle.std.specs.Prelude.{Ok, Some, None, Option}
 use Rattle.records.specs.declared.record.Rec.{Rec}
 use Rattle.records.specs.declared.range.Range.{Range}
-use Rattle.lent.specs.declared.verdict.Verdict.TheVariants.{Admitted}
 use Rattle.records.specs.Table.{count, depth_at, record_at, records, part, from}
 use Rattle.forest.specs.Forest.{Forest, nil, token, node, level, kids, stretch_end, inside}
 use Rattle.table.specs.Rules.{verdict}
@@ -22,12 +22,6 @@ use Rattle.lent.proofs.Cases.{lt-or-le}
 use Rattle.forest.proofs.Laws.{from_cons, head-part, kids-part}
 use Rattle.quotes.specs.declared.quotes.NameRanges.{NameRanges}
 use Rattle.names.specs.declared.names.NameBinding.{NameBinding}
-use Rattle.names.specs.declared.names.Bound.{Bound}
-use Rattle.names.specs.declared.names.Bound.TheVariants.{Unnamed, Named}
-use Rattle.references.specs.declared.pending.Pending.{Pending}
-use Rattle.references.specs.declared.pending.Pending.TheVariants.{Nothing, Held}
-use Rattle.statement.specs.declared.statement.Enclosing.{Enclosing}
-use Rattle.statement.specs.declared.statement.Enclosing.TheVariants.{Outside, Record}
 use Rattle.records.specs.Ranges.{span, holds}
 use Rattle.names.specs.Names.{is_as, is_part, is_name, direct, first_named, last_named, with_item, alias_in, binding as bind}
 use Rattle.quotes.specs.Quotes.{unquoted, name_of}
@@ -81,34 +75,34 @@ unfolding name_of
 name-quoted src t e = rw e
 
 -- what a WITH item binds, as document 01 has it; and what the alias r does
-bound_by : Option Binding → Bound
-bound_by none = Unnamed
-bound_by (some b) = Named (as_binding b)
+bound_by : Option Binding → Option NameBinding
+bound_by None = None
+bound_by (Some b) = Some (as_binding b)
 
-ident_by : Rec → Option Ident → Bound
-ident_by r none = Unnamed
-ident_by r (some i) = Named (as_binding (binding_of r i.token i.name))
+ident_by : Rec → Option Ident → Option NameBinding
+ident_by r None = None
+ident_by r (Some i) = Some (as_binding (binding_of r i.token i.name))
 
 module _ (src : List ℕ) (r : Rec) where
   -- a binding by a name
-  abbrev by : NameRanges → Bound
-  by n = Named (record { token = n.outer; name = n.inner; definition = span r })
+  abbrev by : NameRanges → Option NameBinding
+  by n = Some (record { token = n.outer; name = n.inner; definition = span r })
 
   abbrev names : Forest → List Rec
   names = direct (is_name src)
 
   cte-same : (f : Forest) → Reads src f → Came src (first_quoted (names f)) (extract_cte r f src) (λ b. bound_by b ≡ first_named src r (names f))
   unfolding extract_cte direct first_named first_quoted is_quoted bound_by is_name is_as as_binding bind Reads ◌>>=◌
-  cte-same nil w = came none refl
+  cte-same nil w = came None refl
   cte-same (token t rest) w = go (sort t.kind) (says_as src (span t)) refl (cte-same rest w.1)
     where
       go : Sort t.kind → (b : Bool) → says_as src (span t) ≡ b → Came src (first_quoted (names rest)) (extract_cte r rest src) (λ b. bound_by b ≡ first_named src r (names rest))
           → Came src (first_quoted (names (token t rest))) (extract_cte r (token t rest) src) (λ b. bound_by b ≡ first_named src r (names (token t rest)))
       go (is_bare x y) true e ih = rw (x, y, w.0.text, e) ih
-      go (is_bare x y) false e ih = rw (x, y, w.0.text, e) (rw y (came (some (binding_of r t (span t))) (ap by (sym (name-bare src t y)))))
+      go (is_bare x y) false e ih = rw (x, y, w.0.text, e) (rw y (came (Some (binding_of r t (span t))) (ap by (sym (name-bare src t y)))))
       go (is_quote x y) b e ih =
           rw (x, y, w.0.text)
-          (rw y (came-then _ (unquoted-came src t w.0) (λ n q. came (some (binding_of r t n)) (ap by (ap (ranges (span t)) q ∙ sym (name-quoted src t y))))))
+          (rw y (came-then _ (unquoted-came src t w.0) (λ n q. came (Some (binding_of r t n)) (ap by (ap (ranges (span t)) q ∙ sym (name-quoted src t y))))))
       go (is_other x y) b e ih = rw (x, y) ih
   cte-same (node q below rest) w = cte-same rest w.1
 
@@ -124,17 +118,17 @@ module _ (src : List ℕ) (r : Rec) where
       go (is_bare x y) true e ih = rw (x, y, w.0.text, e) (ih i)
       go (is_bare x y) false e ih =
           rw (x, y, w.0.text, e)
-          (came-so (λ j p. p ∙ ap (λ (n : NameRanges). last_named src r (by n) (names rest)) (sym (name-bare src t y))) (ih (some (record { name = span t; token = t }))))
+          (came-so (λ j p. p ∙ ap (λ (n : NameRanges). last_named src r (by n) (names rest)) (sym (name-bare src t y))) (ih (Some (record { name = span t; token = t }))))
       go (is_quote x y) b e ih =
           rw (x, y, w.0.text)
           (came-then _ (unquoted-came src t w.0)
-          (λ n q. came-so (λ j p. p ∙ ap (λ (n : NameRanges). last_named src r (by n) (names rest)) (ap (ranges (span t)) q ∙ sym (name-quoted src t y))) (ih (some (record { name = n; token = t })))))
+          (λ n q. came-so (λ j p. p ∙ ap (λ (n : NameRanges). last_named src r (by n) (names rest)) (ap (ranges (span t)) q ∙ sym (name-quoted src t y))) (ih (Some (record { name = n; token = t })))))
       go (is_other x y) b e ih = rw (x, y) (ih i)
   alias-same (node q below rest) i w = alias-same rest i w.1
 
-  alias-none : (f : Forest) → Reads src f → Came src (direct is_quoted f) (extract_alias_name f src none) (λ i. ident_by r i ≡ alias_in src r f)
+  alias-none : (f : Forest) → Reads src f → Came src (direct is_quoted f) (extract_alias_name f src None) (λ i. ident_by r i ≡ alias_in src r f)
   unfolding ident_by
-  alias-none f w = alias-same f none w
+  alias-none f w = alias-same f None w
 
 -- the parts of a table's name
 parts_same : (src : List ℕ) (f : Forest) (g : List Range) → Reads src f → parts f src g ≡ gives (g ++ map (λ (t : Rec). span t) (direct is_part f))
@@ -149,15 +143,15 @@ parts_same src (token t rest) g w = rw w.0.text (go (is_part t) (λ h. parts_sam
 parts_same src (node q below rest) g w = parts_same src rest g w.1
 
 -- what is pending is the same
-Pends : Option Reference → Pending → Type 0
-Pends none Nothing = Unit
-Pends none (Held t) = ⊥
-Pends (some r) Nothing = ⊥
-Pends (some r) (Held t) = reference r ≡ compared t
+Pends : Option Reference → Option TableRef → Type 0
+Pends None None = Unit
+Pends None (Some t) = ⊥
+Pends (Some r) None = ⊥
+Pends (Some r) (Some t) = reference r ≡ compared t
 
 held : Option Reference → Bool
-held none = false
-held (some r) = true
+held None = false
+held (Some r) = true
 
 fresh-same : (src : List ℕ) (r : Rec) (ts : List Rec) → Pends (by_parts r (map (λ (t : Rec). span t) ts)) (fresh src r.index ts)
 unfolding Pends by_parts fresh reference compared name_of range_or
@@ -179,19 +173,19 @@ unfolding extract_table_identifier
 identifier-same src r f w =
     record { it = by_parts r (map (λ (t : Rec). span t) (direct is_part f)); gave = then_is _ (parts_same src f [] w); so = (fresh-same src r (direct is_part f), fresh-held r (direct is_part f)) }
 
-aliased-same : (r : Rec) (p : Option Reference) (q : Pending) (i : Option Ident) → Pends p q → Pends (set_alias p i) (aliased q (ident_by r i))
+aliased-same : (r : Rec) (p : Option Reference) (q : Option TableRef) (i : Option Ident) → Pends p q → Pends (set_alias p i) (aliased q (ident_by r i))
 unfolding Pends set_alias aliased ident_by reference compared range_or as_binding
-aliased-same r none Nothing i w = tt
-aliased-same r none (Held u) i w = absurd w
-aliased-same r (some t) Nothing i w = absurd w
-aliased-same r (some t) (Held u) none w = w
-aliased-same r (some t) (Held u) (some i) w = ap (λ (c : Compared). record { «record» = c.«record»; database = c.database; table = c.table; alias = i.name }) w
+aliased-same r None None i w = tt
+aliased-same r None (Some u) i w = absurd w
+aliased-same r (Some t) None i w = absurd w
+aliased-same r (Some t) (Some u) None w = w
+aliased-same r (Some t) (Some u) (Some i) w = ap (λ (c : Compared). record { «record» = c.«record»; database = c.database; table = c.table; alias = i.name }) w
 
 aliased-held : (p : Option Reference) (i : Option Ident) → held (set_alias p i) ≡ held p
 unfolding held set_alias
-aliased-held none i = refl
-aliased-held (some t) none = refl
-aliased-held (some t) (some i) = refl
+aliased-held None i = refl
+aliased-held (Some t) None = refl
+aliased-held (Some t) (Some i) = refl
 
 -- ---- what a part of the pass adds
 
@@ -221,53 +215,53 @@ module _ {s s' s'' : QueryScope} {w w' a a' c c' : List NameBinding} {r r' : Lis
 
 cte-grown : (s : QueryScope) (b : Option Binding) → Grown s (push_if_cte s b) (entry (bound_by b)) [] [] []
 unfolding push_if_cte push_cte entry bound_by
-cte-grown s none = grown-none s
-cte-grown s (some b) =
+cte-grown s None = grown-none s
+cte-grown s (Some b) =
     record { ctes = map-append as_binding s.ctes (b ∷ []); tables = sym (append-nil _); columns = sym (append-nil _); refs = sym (append-nil _) }
 
 column-grown : (s : QueryScope) (r : Rec) (i : Option Ident) → Grown s (push_if_alias s r i) [] [] (entry (ident_by r i)) []
 unfolding push_if_alias push_column_alias entry ident_by
-column-grown s r none = grown-none s
-column-grown s r (some i) =
+column-grown s r None = grown-none s
+column-grown s r (Some i) =
     record { ctes = sym (append-nil _); tables = sym (append-nil _); columns = map-append as_binding s.column_aliases (binding_of r i.token i.name ∷ []); refs = sym (append-nil _) }
 
 -- the references of a reading, as they are compared
 abbrev compares : Listing Compared
 compares = mapped compared references
 
-flush-grown : (s : QueryScope) (p : Option Reference) (q : Pending) → Pends p q → Grown s (flush p s) [] (hand_on aliases q) [] (hand_on compares q)
+flush-grown : (s : QueryScope) (p : Option Reference) (q : Option TableRef) → Pends p q → Grown s (flush p s) [] (hand_on aliases q) [] (hand_on compares q)
 unfolding flush push_table_ref hand_on Pends
-flush-grown s none Nothing w = grown-none s
-flush-grown s none (Held t) w = absurd w
-flush-grown s (some r) Nothing w = absurd w
-flush-grown s (some r) (Held t) w =
+flush-grown s None None w = grown-none s
+flush-grown s None (Some t) w = absurd w
+flush-grown s (Some r) None w = absurd w
+flush-grown s (Some r) (Some t) w =
     record { ctes = sym (append-nil _); tables = sym (append-nil _); columns = sym (append-nil _); refs = rw (← w) (map-append reference s.table_refs (r ∷ [])) }
 
-alias-grown : (s : QueryScope) (r : Rec) (p : Option Reference) (q : Pending) (i : Option Ident) → Pends p q
+alias-grown : (s : QueryScope) (r : Rec) (p : Option Reference) (q : Option TableRef) (i : Option Ident) → Pends p q
     → Grown s (push_alias p i r s) [] (list_alias aliases q (ident_by r i)) [] (list_alias compares q (ident_by r i))
 unfolding push_alias push_table_alias list_alias Pends ident_by
-alias-grown s r none Nothing i w = grown-none s
-alias-grown s r none (Held u) i w = absurd w
-alias-grown s r (some t) Nothing i w = absurd w
-alias-grown s r (some t) (Held u) none w = grown-none s
-alias-grown s r (some t) (Held u) (some i) w =
+alias-grown s r None None i w = grown-none s
+alias-grown s r None (Some u) i w = absurd w
+alias-grown s r (Some t) None i w = absurd w
+alias-grown s r (Some t) (Some u) None w = grown-none s
+alias-grown s r (Some t) (Some u) (Some i) w =
     record { ctes = sym (append-nil _); tables = map-append as_binding s.table_aliases (binding_of r i.token i.name ∷ []); columns = sym (append-nil _); refs = sym (append-nil _) }
 
 -- the alias of a reading: it is looked at only where a reference is pending
-record Aliased (src : List ℕ) (r : Rec) (f : Forest) (p : Option Reference) (q : Pending) (i : Option Ident) : Type 0 where
+record Aliased (src : List ℕ) (r : Rec) (f : Forest) (p : Option Reference) (q : Option TableRef) (i : Option Ident) : Type 0 where
   pending : Pends (set_alias p i) (aliased q (alias_in src r f))
   pushed : (s : QueryScope) → Grown s (push_alias p i r s) [] (list_alias aliases q (alias_in src r f)) [] (list_alias compares q (alias_in src r f))
 
-pending-came : (src : List ℕ) (r : Rec) (f : Forest) (p : Option Reference) (q : Pending) → Pends p q → Reads src f
+pending-came : (src : List ℕ) (r : Rec) (f : Forest) (p : Option Reference) (q : Option TableRef) → Pends p q → Reads src f
     → Came src (cond (held p) (direct is_quoted f) []) (name_if_pending p f src) (Aliased src r f p q)
 unfolding name_if_pending held Pends
-pending-came src r f none Nothing v w =
-    came none (record { pending = unfold set_alias aliased in tt; pushed = λ s. unfold push_alias list_alias in grown-none s })
-pending-came src r f none (Held u) v w = absurd v
-pending-came src r f (some t) Nothing v w = absurd v
-pending-came src r f (some t) (Held u) v w =
+pending-came src r f None None v w =
+    came None (record { pending = unfold set_alias aliased in tt; pushed = λ s. unfold push_alias list_alias in grown-none s })
+pending-came src r f None (Some u) v w = absurd v
+pending-came src r f (Some t) None v w = absurd v
+pending-came src r f (Some t) (Some u) v w =
     came-so
-    (λ i e. record { pending = rw (← e) (aliased-same r (some t) (Held u) i v); pushed = λ s. rw (← e) (alias-grown s r (some t) (Held u) i v) })
+    (λ i e. record { pending = rw (← e) (aliased-same r (Some t) (Some u) i v); pushed = λ s. rw (← e) (alias-grown s r (Some t) (Some u) i v) })
     (alias-none src r f w)
 
 -- ---- the collections
@@ -319,7 +313,7 @@ module _ (src : List ℕ) where
     where
       go : (a b : Bool) → Came src (unquoted_columns below) (collect_column_aliases below src s) (λ s'. Grown s s' [] [] (select_aliases src below) [])
           → Came src (cond a (direct is_quoted below) (cond b (unquoted_columns below) []))
-          (cond a (extract_alias_name below src none >>= (λ i. gives (push_if_alias s r i))) (cond b (collect_column_aliases below src s) (gives s)))
+          (cond a (extract_alias_name below src None >>= (λ i. gives (push_if_alias s r i))) (cond b (collect_column_aliases below src s) (gives s)))
           (λ s'. Grown s s' [] [] (cond a (entry (alias_in src r below)) (cond b (select_aliases src below) [])) [])
       go true b ih =
           rw (← append-nil (direct is_quoted below))
@@ -328,22 +322,22 @@ module _ (src : List ℕ) where
       go false false ih = came s (grown-none s)
 
   -- what the reading of f with q pending adds
-  abbrev Read : Pending → Forest → QueryScope → QueryScope → Type 0
+  abbrev Read : Option TableRef → Forest → QueryScope → QueryScope → Type 0
   Read q f s s' = Grown s s' [] (table_reading aliases src q f) [] (table_reading compares src q f)
 
   -- a reading of f with p pending, which is q
-  abbrev Reading : Option Reference → Pending → Forest → QueryScope → Type 0
+  abbrev Reading : Option Reference → Option TableRef → Forest → QueryScope → Type 0
   Reading p q f s = Came src (unquoted_reading (held p) f) (collect_table_refs p f src s) (Read q f s)
 
-  module _ (r : Rec) (below rest : Forest) (p : Option Reference) (q : Pending) (v : Pends p q) (s : QueryScope) (w : Reads src below)
-      (ib : (s : QueryScope) → Reading none Nothing below s) (ir : (p : Option Reference) (q : Pending) → Pends p q → (s : QueryScope) → Reading p q rest s) where
+  module _ (r : Rec) (below rest : Forest) (p : Option Reference) (q : Option TableRef) (v : Pends p q) (s : QueryScope) (w : Reads src below)
+      (ib : (s : QueryScope) → Reading None None below s) (ir : (p : Option Reference) (q : Option TableRef) → Pends p q → (s : QueryScope) → Reading p q rest s) where
     -- what a node gives, by its kind
     abbrev listed : {E : Type 0} → Listing E → Bool → Bool → Bool → Bool → List E
     listed L a b c d =
         cond a (hand_on L q ++ table_reading L src (fresh src r.index (direct is_part below)) rest)
         (cond b (list_alias L q (alias_in src r below) ++ table_reading L src (aliased q (alias_in src r below)) rest)
-        (cond c (table_reading L src Nothing below ++ table_reading L src q rest)
-        (cond d (hand_on L q ++ (table_reading L src Nothing below ++ table_reading L src Nothing rest)) (table_reading L src q rest))))
+        (cond c (table_reading L src None below ++ table_reading L src q rest)
+        (cond d (hand_on L q ++ (table_reading L src None below ++ table_reading L src None rest)) (table_reading L src q rest))))
 
     abbrev stopping : Bool → Bool → Bool → Bool → List Rec
     stopping a b c d =
@@ -356,8 +350,8 @@ module _ (src : List ℕ) where
     running a b c d =
         cond a (extract_table_identifier r below src >>= (λ q. collect_table_refs q rest src (flush p s)))
         (cond b (name_if_pending p below src >>= (λ i. collect_table_refs (set_alias p i) rest src (push_alias p i r s)))
-        (cond c (collect_table_refs none below src s >>= (λ s. collect_table_refs p rest src s))
-        (cond d (collect_table_refs none below src (flush p s) >>= (λ s. collect_table_refs none rest src s)) (collect_table_refs p rest src s))))
+        (cond c (collect_table_refs None below src s >>= (λ s. collect_table_refs p rest src s))
+        (cond d (collect_table_refs None below src (flush p s) >>= (λ s. collect_table_refs None rest src s)) (collect_table_refs p rest src s))))
 
     node-came : (a b c d : Bool) → Came src (stopping a b c d) (running a b c d) (λ s'. Grown s s' [] (listed aliases a b c d) [] (listed compares a b c d))
     unfolding Pends held
@@ -368,15 +362,15 @@ module _ (src : List ℕ) where
         came-then _ (pending-came src r below p q v w)
         (λ i e. came-so (λ s' x. grown-then (e.pushed s) x) (rw (aliased-held p i) at (ir (set_alias p i) (aliased q (alias_in src r below)) e.pending (push_alias p i r s))))
     node-came false false true d = came-then _ (ib s) (λ s' x. came-so (λ s'' x'. grown-then x x') (ir p q v s'))
-    node-came false false false true = came-then _ (ib (flush p s)) (λ s' x. came-so (λ s'' x'. grown-then (flush-grown s p q v) (grown-then x x')) (ir none Nothing tt s'))
+    node-came false false false true = came-then _ (ib (flush p s)) (λ s' x. came-so (λ s'' x'. grown-then (flush-grown s p q v) (grown-then x x')) (ir None None tt s'))
     node-came false false false false = ir p q v s
 
-  tables-came : (f : Forest) (p : Option Reference) (q : Pending) → Pends p q → (s : QueryScope) → Reads src f → Reading p q f s
+  tables-came : (f : Forest) (p : Option Reference) (q : Option TableRef) → Pends p q → (s : QueryScope) → Reads src f → Reading p q f s
   unfolding collect_table_refs table_reading unquoted_reading Reads Pends held
   tables-came nil p q v s w = came (flush p s) (flush-grown s p q v)
   tables-came (token t rest) p q v s w = tables-came rest p q v s w.1
   tables-came (node r below rest) p q v s w =
-      node-came r below rest p q v s w.0 (λ s. tables-came below none Nothing tt s w.0) (λ p q v s. tables-came rest p q v s w.1) (eqb r.kind 33) (eqb r.kind 35) (eqb r.kind 34) (eqb r.kind 17)
+      node-came r below rest p q v s w.0 (λ s. tables-came below None None tt s w.0) (λ p q v s. tables-came rest p q v s w.1) (eqb r.kind 33) (eqb r.kind 35) (eqb r.kind 34) (eqb r.kind 17)
 
   -- ---- a node's own part, and its children's
 
@@ -391,7 +385,7 @@ module _ (src : List ℕ) where
         (λ s'. Grown s s' (visited (own_with src)) (visited (own_tables aliases src)) (visited (own_columns src)) (visited (own_tables compares src)))
     unfolding node_gives own_with own_tables own_columns own_unquoted body Pends held
     clause-came (is_with a b c) = rw (a, b, c, append-nil (with_items src f), append-nil (unquoted_items src f)) (ctes-came f s w)
-    clause-came (is_tables a b c) = rw (a, b, c) (came-then _ (tables-came f none Nothing tt s w) (λ s' q. came-so (λ s'' q'. grown-then q q') (ih s')))
+    clause-came (is_tables a b c) = rw (a, b, c) (came-then _ (tables-came f None None tt s w) (λ s' q. came-so (λ s'' q'. grown-then q q') (ih s')))
     clause-came (is_select a b c) = rw (a, b, c) (came-then _ (columns-came f s w) (λ s' q. came-so (λ s'' q'. grown-then q q') (ih s')))
     clause-came (is_none a b c) = rw (a, b, c) (ih s)
 
@@ -423,10 +417,10 @@ statement-kinds k = sym (range-list 9 4 k)
 
 or_same : (x y : Option Rec) → found (or_return x y) ≡ or_else (found x) (found y)
 unfolding found or_return or_else
-or_same none y = refl
-or_same (some r) y = refl
+or_same None y = refl
+or_same (Some r) y = refl
 
-held_same : (r : Rec) (o : ℕ) (deeper : Option Rec) → found (enclosing r o deeper) ≡ cond (holds o r) (or_else (found deeper) (itself r.kind r.index)) Outside
+held_same : (r : Rec) (o : ℕ) (deeper : Option Rec) → found (enclosing r o deeper) ≡ cond (holds o r) (or_else (found deeper) (itself r.kind r.index)) None
 unfolding enclosing found
 held_same r o deeper =
     ⊎_elim
@@ -436,15 +430,15 @@ held_same r o deeper =
     (λ (g : r.end < o). rw (le-leb r.start o h, lt-leb o r.end g, le-ltb o r.start h, lt-ltb r.end o g) (gone (ltb r.end r.start)))
     (λ (g : o ≤ r.end).
     rw (le-leb r.start o h, le-leb o r.end g, le-ltb o r.start h, le-ltb r.end o g, le-ltb r.end r.start (omega arith))
-    (or_same deeper (cond (is_statement_kind r.kind) (some r) none) ∙ ap (or_else (found deeper)) (rw (statement-kinds r.kind) (own (is_statement r.kind)))))
+    (or_same deeper (cond (is_statement_kind r.kind) (Some r) None) ∙ ap (or_else (found deeper)) (rw (statement-kinds r.kind) (own (is_statement r.kind)))))
     (lt-or-le r.end o))
     (lt-or-le o r.start)
   where
-    gone : (b : Bool) → found (cond b none none) ≡ Outside
+    gone : (b : Bool) → found (cond b None None) ≡ None
     gone true = refl
     gone false = refl
 
-    own : (b : Bool) → found (cond b (some r) none) ≡ cond b (Record r.index) Outside
+    own : (b : Bool) → found (cond b (Some r) None) ≡ cond b (Some r.index) None
     own true = refl
     own false = refl
 
@@ -457,10 +451,10 @@ deeper-same (node r below rest) o =
 
 -- ---- the theorem
 
-or-outside : (e : Enclosing) → or_else e Outside ≡ e
+or-outside : (e : Option ℕ) → or_else e None ≡ e
 unfolding or_else
-or-outside Outside = refl
-or-outside (Record n) = refl
+or-outside None = refl
+or-outside (Some n) = refl
 
 -- the collection of record i is of what stands inside it
 module _ {E : Type 0} (own : ℕ → Forest → List E) (t : List ℕ) (i : ℕ) (h : i < count t) where
@@ -481,7 +475,7 @@ not-both p q = let w : ◌≡◌ {A = ℕ} 0 1 = cc in omega arith
 true-false : {b : Bool} → b ≡ true → b ≡ false → ⊥
 true-false p q = let w : ◌≡◌ {A = ℕ} 0 1 = cc in omega arith
 
-module _ (source t : List ℕ) (ok : verdict t (length source) 0 ≡ Admitted) (ask : Askable source t) where
+module _ (source t : List ℕ) (ok : verdict t (length source) 0 ≡ Ok tt) (ask : Askable source t) where
   module _ (i : ℕ) (h : i < count t) where
     stopped : (scope_at source t i ≡ stops) ↔ (any_lone source (unquoted_at source t i) ≡ true)
     stopped = go (built source (record_at t 0 i) (inside t i) (reads ok ask i))

@@ -4,13 +4,12 @@ use Prim.Native.Nat.{ℕ, zero, suc, ◌+◌, ◌-◌, ◌≤◌, ◌<◌}
 use mathlib.Core.Path.{◌≡◌, refl, sym, ap, ◌∙◌}
 use mathlib.Core.Bool.{Bool, true, false, cond, not, ◌&&◌, ◌||◌}
 use mathlib.Core.List.{List, [], ◌∷◌, ◌++◌, append-nil, append_assoc}
-use mathlib.Core.Option.{Option, none, some}
 use native.Mathlib.Omega.{arith}
 use borrow.Author.Tests.{ltb-true, le-leb, leb-false}
 use lib.Dec.{ltb, eqb}
 use lib.ListN.{length}
+use Rattle.std.specs.Prelude.{Ok, Option, Some, None}
 use Rattle.records.specs.declared.record.Rec.{Rec}
-use Rattle.lent.specs.declared.verdict.Verdict.TheVariants.{Admitted}
 use Rattle.records.specs.Kinds.{is_node, last_node}
 use Rattle.records.specs.Table.{count, kind_at, start_at, record_at, run, from, records}
 use Rattle.forest.specs.Forest.{Forest, nil, token, node, level, kids}
@@ -18,10 +17,10 @@ use Rattle.table.specs.Rules.{verdict}
 use Rattle.forest.specs.Sense.{Tidy, Linked, in_order, by_depth, tree_of}
 use Rattle.text.specs.Text.{text}
 use Rattle.classes.specs.declared.token_class.TokenClass.{TokenClass}
-use Rattle.classes.specs.declared.token_class.TokenClass.TheVariants.{Keyword, Function, StringLiteral, Number, Comment, Operator, Variable, TypeName, Parameter, Property, Unclassed}
+use Rattle.classes.specs.declared.token_class.TokenClass.TheVariants.{Keyword, Function, StringLiteral, Number, Comment, Operator, Variable, TypeName, Parameter, Property}
 use Rattle.class_list.specs.declared.class_list.ClassedToken.{ClassedToken}
 use Rattle.keywords.specs.Keywords.{is_keyword as word_is_keyword}
-use Rattle.class_list.specs.Classes.{classes_of, entry_with, entry_of, classes}
+use Rattle.class_list.specs.Classes.{classes_of, entry_of, classes}
 use Rattle.classes.specs.TokenClass.{between, judged, bareword, by_parent, class_of, number_of}
 use Rattle.forest.proofs.Orders.{tidy-ordered}
 use Rattle.forest.proofs.Sense.{admitted-tidy, whole-tree}
@@ -86,10 +85,15 @@ never : (b : Bool) → (b && false) ≡ false
 never true = refl
 never false = refl
 
+-- the number of a class, as the Rust has it
+numbered : Option TokenClass → Option ℕ
+numbered None = None
+numbered (Some c) = Some (number_of c)
+
 words : (ty fn tb al co pa kw ex : Bool)
-    → cond ty (some 7) (cond (fn && not kw) (some 1) (cond (tb && not kw) (some 9) (cond (al && not kw) (some 6) (cond (co && not kw) (some 6) (cond pa (some 8) (cond kw (some 0) (cond ex (some 6) none)))))))
-    ≡ number_of (cond ty TypeName (cond (not kw && fn) Function (cond (not kw && tb) Property (cond (not kw && (al || co)) Variable (cond pa Parameter (cond kw Keyword (cond ex Variable Unclassed)))))))
-unfolding number_of
+    → cond ty (Some 7) (cond (fn && not kw) (Some 1) (cond (tb && not kw) (Some 9) (cond (al && not kw) (Some 6) (cond (co && not kw) (Some 6) (cond pa (Some 8) (cond kw (Some 0) (cond ex (Some 6) None)))))))
+    ≡ numbered (cond ty (Some TypeName) (cond (not kw && fn) (Some Function) (cond (not kw && tb) (Some Property) (cond (not kw && (al || co)) (Some Variable) (cond pa (Some Parameter) (cond kw (Some Keyword) (cond ex (Some Variable) None)))))))
+unfolding numbered
 words true fn tb al co pa kw ex = refl
 words false true tb al co pa false ex = refl
 words false false true al co pa false ex = refl
@@ -101,35 +105,35 @@ words false false false false false false false false = refl
 words false fn tb al co true true ex = rw (never fn, never tb, never al, never co)
 words false fn tb al co false true ex = rw (never fn, never tb, never al, never co)
 
-by-parent : (p : ℕ) → classify_identifier_by_parent p ≡ number_of (by_parent p)
-unfolding classify_identifier_by_parent by_parent number_of
+by-parent : (p : ℕ) → classify_identifier_by_parent p ≡ Some (number_of (by_parent p))
+unfolding classify_identifier_by_parent by_parent
 by-parent p =
     rw (range 43 2 p, range 40 2 p, range 33 2 p, range 50 1 p, properties-same p)
     (go (one_of (43 ∷ 44 ∷ 45 ∷ []) p) (one_of (40 ∷ 41 ∷ 42 ∷ []) p) (one_of (33 ∷ 34 ∷ 35 ∷ 50 ∷ 51 ∷ []) p) (one_of (47 ∷ 48 ∷ 36 ∷ 46 ∷ []) p))
   where
-    go : (a b c d : Bool) → cond a (some 1) (cond b (some 7) (cond c (some 9) (cond d (some 6) (some 6)))) ≡ number_of (cond a Function (cond b TypeName (cond c Property Variable)))
+    go : (a b c d : Bool) → cond a (Some 1) (cond b (Some 7) (cond c (Some 9) (cond d (Some 6) (Some 6)))) ≡ Some (number_of (cond a Function (cond b TypeName (cond c Property Variable))))
     go true b c d = refl
     go false true c d = refl
     go false false true d = refl
     go false false false true = refl
     go false false false false = refl
 
-bareword-same : (w : List ℕ) (p : ℕ) → classify_bareword w p ≡ number_of (bareword w p)
+bareword-same : (w : List ℕ) (p : ℕ) → classify_bareword w p ≡ numbered (bareword w p)
 unfolding classify_bareword bareword judged
 bareword-same w p =
     rw (keyword-same w, range 40 2 p, range 43 2 p, range 33 2 p, range 50 4 p, range 46 2 p, tables-same p, columns-same p)
     (words (one_of (40 ∷ 41 ∷ 42 ∷ []) p) (one_of (43 ∷ 44 ∷ 45 ∷ []) p) (one_of tables p) (eqb p 36) (one_of (47 ∷ 48 ∷ 46 ∷ []) p) (eqb p 49) (word_is_keyword w) (eqb p 55))
 
 class_same : (source : List ℕ) (p k s e : ℕ) → slice source s e ≡ gives (record { start = s; end = e })
-    → classify_token k s e source p ≡ gives (number_of (class_of source p k s e))
-unfolding classify_token word_arm class_of number_of ◌>>=◌
+    → classify_token k s e source p ≡ gives (numbered (class_of source p k s e))
+unfolding classify_token word_arm class_of numbered ◌>>=◌
 class_same source p k s e w =
     rw (w, range 134 1 k, range 143 14 k, by-parent p, bareword-same (text source s e) p)
     (go (eqb k 130) (eqb k 133) (one_of (134 ∷ 135 ∷ []) k) (one_of operators k) (eqb k 132) (eqb k 131) (by_parent p) (bareword (text source s e) p))
   where
-    go : (a b c d q w : Bool) (x y : TokenClass)
-        → cond a (gives (some 4)) (cond b (gives (some 3)) (cond c (gives (some 2)) (cond d (gives (some 5)) (cond q (gives (number_of x)) (cond w (gives (number_of y)) (gives none))))))
-        ≡ gives (number_of (cond a Comment (cond b Number (cond c StringLiteral (cond d Operator (cond q x (cond w y Unclassed)))))))
+    go : (a b c d q w : Bool) (x : TokenClass) (y : Option TokenClass)
+        → cond a (gives (Some 4)) (cond b (gives (Some 3)) (cond c (gives (Some 2)) (cond d (gives (Some 5)) (cond q (gives (Some (number_of x))) (cond w (gives (numbered y)) (gives None))))))
+        ≡ gives (numbered (cond a (Some Comment) (cond b (Some Number) (cond c (Some StringLiteral) (cond d (Some Operator) (cond q (Some x) (cond w y None)))))))
     go true b c d q w x y = refl
     go false true c d q w x y = refl
     go false false true d q w x y = refl
@@ -140,13 +144,10 @@ class_same source p k s e w =
 
 -- ---- the list
 
-push-same : (out : List ClassedToken) (t : Rec) (c : TokenClass) → push_class out t (number_of c) ≡ out ++ entry_of c t.start t.end
-unfolding push_class entry_of entry_with
-push-same out t c = go (number_of c)
-  where
-    go : (n : Option ℕ) → push_class out t n ≡ out ++ entry_with n t.start t.end
-    go none = sym (append-nil out)
-    go (some n) = refl
+push-same : (out : List ClassedToken) (t : Rec) (c : Option TokenClass) → push_class out t (numbered c) ≡ out ++ entry_of c t.start t.end
+unfolding push_class entry_of numbered
+push-same out t None = sym (append-nil out)
+push-same out t (Some c) = refl
 
 collect-same : (source : List ℕ) (f : Forest) (p : ℕ) (out : List ClassedToken) → Reads source f → collect_tokens p f source out ≡ gives (out ++ classes source p f)
 unfolding collect_tokens classes Reads
@@ -207,13 +208,10 @@ level-leafy (r ∷ rs) k = go (ltb r.depth k) (ltb k r.depth) (is_node r.kind) r
     go false false false e x y = (e, x)
 
 module _ (source : List ℕ) where
-  entry-rising : (c : TokenClass) (b s e : ℕ) (xs : List ClassedToken) → b ≤ s → Rising s xs → Rising b (entry_of c s e ++ xs)
-  unfolding entry_of entry_with Rising
-  entry-rising c b s e xs h w = go (number_of c)
-    where
-      go : (n : Option ℕ) → Rising b (entry_with n s e ++ xs)
-      go none = rising-less b s xs h w
-      go (some n) = (h, w)
+  entry-rising : (c : Option TokenClass) (b s e : ℕ) (xs : List ClassedToken) → b ≤ s → Rising s xs → Rising b (entry_of c s e ++ xs)
+  unfolding entry_of Rising
+  entry-rising None b s e xs h w = rising-less b s xs h w
+  entry-rising (Some c) b s e xs h w = (h, w)
 
   -- the entries of siblings rise, where their tokens do, and with what follows them
   classes-rising : (f : Forest) (p q b : ℕ) (more : List Linked) (tail : List ClassedToken) → Leafy f → Ascending b (in_order q f ++ more)
@@ -230,7 +228,7 @@ module _ (source : List ℕ) where
       (rw (l.0, append_assoc (in_order r.index below) (in_order q rest) more) at w.1)
       (λ c v. classes-rising rest p q c more tail l.2 v on))
 
-  module _ (t : List ℕ) (ok : verdict t (length source) 0 ≡ Admitted) where
+  module _ (t : List ℕ) (ok : verdict t (length source) 0 ≡ Ok tt) where
     tidy : Tidy t (length source)
     tidy = admitted-tidy t (length source) 0 ok
 
@@ -265,7 +263,7 @@ module _ (source : List ℕ) where
         rw (append-nil (classes_of source t))
         at (classes-rising (kids (records 0 t)) (kind_at t 0) 0 0 [] [] (kids-leafy (records 0 t)) below-ascending (λ c v. tt))
 
-pub semantic-tokens-rs : (source t : List ℕ) → verdict t (length source) 0 ≡ Admitted → Askable source t → SemanticTokensRs source t
+pub semantic-tokens-rs : (source t : List ℕ) → verdict t (length source) 0 ≡ Ok tt → Askable source t → SemanticTokensRs source t
 unfolding compute
 semantic-tokens-rs source t ok ask =
     let same : collect_tokens (kind_at t 0) (kids (records 0 t)) source [] ≡ gives (classes_of source t) = collect-same source (kids (records 0 t)) (kind_at t 0) [] (reads ok ask 0) in

@@ -15,9 +15,9 @@ use borrow.Author.Tests.{eq-eqb, ne_eqb, eqb-true, lt-ltb, le-ltb, le-leb, lt-le
 use lib.Dec.{leb, ltb, eqb}
 use lib.ListN.{length, get_or, drop}
 use lib.Seq.{drop-cons}
+use Rattle.std.specs.Prelude.{Ok}
 use Rattle.records.specs.declared.record.Rec.{Rec}
 use Rattle.records.specs.declared.range.Range.{Range}
-use Rattle.lent.specs.declared.verdict.Verdict.TheVariants.{Admitted}
 use Rattle.records.specs.Kinds.{last_node}
 use Rattle.records.specs.Table.{count, kind_at, record_at}
 use Rattle.forest.specs.Forest.{Forest, nil, token, node, inside}
@@ -169,7 +169,7 @@ read_at src t h x y =
       name = unquote-is src (span t) h x y;
     }
 
-module _ {source t : List ℕ} (ok : verdict t (length source) 0 ≡ Admitted) (ask : Askable source t) where
+module _ {source t : List ℕ} (ok : verdict t (length source) 0 ≡ Ok tt) (ask : Askable source t) where
   tidy : Tidy t (length source)
   tidy = admitted-tidy t (length source) 0 ok
 

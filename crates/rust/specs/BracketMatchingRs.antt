@@ -1,14 +1,11 @@
 -- bracket_matching.rs, statement by statement: the second reading of document 01's brackets.
 -- Definitions only; the theorem is `bracket-matching-rs` in proofs/BracketMatchingRs.antt.
-use Rattle.std.specs.Prelude.{ℕ, ◌≡◌, Bool, cond, ◌&&◌, ◌||◌, List, [], ◌∷◌, map, reverse, eqb}
-use Rattle.std.proofs.Math.Option.{Option, none, some}
+use Rattle.std.specs.Prelude.{ℕ, ◌≡◌, Bool, cond, ◌&&◌, ◌||◌, List, [], ◌∷◌, map, reverse, eqb, Option, None, Some}
 use Rattle.records.specs.declared.record.Rec.{Rec}
 use Rattle.records.specs.Kinds.{opening_round, opening_square, opening_curly, closing_round, closing_square, closing_curly}
 use Rattle.records.specs.Table.{records}
 use Rattle.forest.specs.Forest.{Forest, nil, token, node, kids}
 use Rattle.text.specs.Text.{bytes_of}
-use Rattle.brackets.specs.declared.bracket_matching.Hint.{Hint}
-use Rattle.brackets.specs.declared.bracket_matching.Hint.TheVariants.{Opener, NoOpener}
 use Rattle.brackets.specs.Brackets.{holding, index_of, openers_left, stack_left, hint_of}
 use Rattle.path.specs.Path.{one_of}
 use Rattle.rust.specs.Rust.{push, last, pop, find}
@@ -24,8 +21,8 @@ matches l k =
 
 -- the arm of a closing bracket of kind k: `if let Some(last) = stack.last()`, and if it matches `stack.pop()`
 unfoldable pub pop_matching : ℕ → List Rec → Option Rec → List Rec
-pop_matching k stack none = stack
-pop_matching k stack (some l) = cond (matches l.kind k) (pop stack) stack
+pop_matching k stack None = stack
+pop_matching k stack (Some l) = cond (matches l.kind k) (pop stack) stack
 
 -- the `match token.kind` of a token
 unfoldable pub bracket : Rec → List Rec → List Rec
@@ -42,14 +39,14 @@ collect_brackets (node tree children rest) stack = collect_brackets rest (collec
 -- the `closer` of a message; `contains` is document 01's "holding" (`holding-plain` in scope/proofs/BracketLaws.antt)
 unfoldable pub closer : List ℕ → Option ℕ
 closer message =
-    cond (holding (bytes_of "expected )") message) (some opening_round)
-    (cond (holding (bytes_of "expected ]") message) (some opening_square)
-    (cond (holding (bytes_of "expected }") message) (some opening_curly) none))
+    cond (holding (bytes_of "expected )") message) (Some opening_round)
+    (cond (holding (bytes_of "expected ]") message) (Some opening_square)
+    (cond (holding (bytes_of "expected }") message) (Some opening_curly) None))
 
 -- `if let Some(opener_kind) = closer`, then `stack.iter().rev().find(..)`
 unfoldable pub find_opener : List Rec → Option ℕ → Option Rec
-find_opener stack none = none
-find_opener stack (some k) = find (λ (b : Rec). eqb b.kind k) (reverse stack)
+find_opener stack None = None
+find_opener stack (Some k) = find (λ (b : Rec). eqb b.kind k) (reverse stack)
 
 -- fn enrich(diagnostics, tree), of one diagnostic: the opener whose range it relates
 unfoldable pub enrich : List ℕ → Forest → Option Rec
@@ -58,9 +55,9 @@ enrich message children = find_opener (collect_brackets children []) (closer mes
 -- ---- the second reading says the same
 
 -- an opener found, or none
-unfoldable pub hint : Option Rec → Hint
-hint none = NoOpener
-hint (some b) = Opener b.index
+unfoldable pub hint : Option Rec → Option ℕ
+hint None = None
+hint (Some b) = Some b.index
 
 pub record BracketMatchingRs (t : List ℕ) : Type 0 where
   pub openers-left : map index_of (collect_brackets (kids (records 0 t)) []) ≡ openers_left t

@@ -7,8 +7,7 @@
 -- A definition that has the name of a function of the Rust is that function. They stand in the order of the Rust's file, but for one that is used
 -- by an earlier one: it stands before its first use. These are the library functions that it uses.
 -- Definitions only.
-use Rattle.std.specs.Prelude.{ℕ, ◌≤◌, ◌<◌, ◌≡◌, Bool, cond, not, ◌&&◌, ◌||◌, List, [], ◌∷◌, ◌++◌, ◌↔◌, leb, ltb, eqb, length, get_or}
-use Rattle.std.proofs.Math.Option.{Option, none, some}
+use Rattle.std.specs.Prelude.{ℕ, ◌≤◌, ◌<◌, ◌≡◌, Bool, cond, not, ◌&&◌, ◌||◌, List, [], ◌∷◌, ◌++◌, ◌↔◌, leb, ltb, eqb, length, get_or, Option, None, Some}
 use Rattle.records.specs.declared.record.Rec.{Rec}
 use Rattle.records.specs.declared.range.Range.{Range}
 use Rattle.records.specs.Table.{count, kind_at, start_at, end_at, record_at}
@@ -65,8 +64,8 @@ push xs x = xs ++ x ∷ []
 
 -- slice::last
 unfoldable pub last : {A : Type 0} → List A → Option A
-last [] = none
-last (x ∷ []) = some x
+last [] = None
+last (x ∷ []) = Some x
 last (x ∷ y ∷ xs) = last (y ∷ xs)
 
 -- Vec::pop, for what it leaves
@@ -77,5 +76,5 @@ pop (x ∷ y ∷ xs) = x ∷ pop (y ∷ xs)
 
 -- Iterator::find
 unfoldable pub find : {A : Type 0} → (A → Bool) → List A → Option A
-find test [] = none
-find {A} test (x ∷ xs) = let on : Option A = find test xs in cond (test x) (some x) on
+find test [] = None
+find {A} test (x ∷ xs) = let on : Option A = find test xs in cond (test x) (Some x) on

@@ -1,7 +1,6 @@
 -- scope.rs, statement by statement: the second reading of document 01's scope and of its enclosing statement.
 -- Definitions only; the theorem is `scope-rs` in proofs/ScopeRs.antt.
-use Rattle.std.specs.Prelude.{ℕ, ◌+◌, ◌-◌, ◌<◌, ◌≡◌, Bool, true, false, cond, ◌&&◌, ◌||◌, List, [], ◌∷◌, ◌++◌, map, ◌↔◌, ltb, eqb}
-use Rattle.std.proofs.Math.Option.{Option, none, some}
+use Rattle.std.specs.Prelude.{ℕ, ◌+◌, ◌-◌, ◌<◌, ◌≡◌, Bool, true, false, cond, ◌&&◌, ◌||◌, List, [], ◌∷◌, ◌++◌, map, ◌↔◌, ltb, eqb, Some, None, Option}
 use Rattle.records.specs.declared.record.Rec.{Rec}
 use Rattle.records.specs.Kinds.{select_statement, insert_statement, create_statement, alter_statement, delete_statement, update_statement, drop_statement, show_statement, explain_statement, describe_statement, with_clause, select_clause, from_clause, join_clause, with_expression_item, subquery_expression, column_list, expression_list, table_identifier, table_expression, table_alias, column_alias, bare_word, quoted_identifier}
 use Rattle.records.specs.Table.{count, record_at, records}
@@ -10,8 +9,6 @@ use Rattle.text.specs.Text.{bytes_of, text, says}
 use Rattle.records.specs.declared.range.Range.{Range}
 use Rattle.names.specs.declared.names.NameBinding.{NameBinding}
 use Rattle.references.specs.declared.pending.TableRef.{TableRef}
-use Rattle.statement.specs.declared.statement.Enclosing.{Enclosing}
-use Rattle.statement.specs.declared.statement.Enclosing.TheVariants.{Outside, Record}
 use Rattle.records.specs.Ranges.{absent, span}
 use Rattle.names.specs.Names.{is_name, direct}
 use Rattle.quotes.specs.Quotes.{byte_at, is_mark}
@@ -86,25 +83,25 @@ binding_of tree t name = record { name = name; range = span t; definition_range 
 
 -- fn extract_cte(tree, source): returns at the first name
 unfoldable pub extract_cte : Rec → Forest → List ℕ → Call (Option Binding)
-extract_cte tree nil source = gives none
+extract_cte tree nil source = gives None
 extract_cte tree (token t rest) source =
     let on : Call (Option Binding) = extract_cte tree rest source in
     let bare : Call (Option Binding) = do
       s ← text_of source t
-      cond (says_as source s) on (gives (some (binding_of tree t s)))
+      cond (says_as source s) on (gives (Some (binding_of tree t s)))
     in
     let quoted : Call (Option Binding) = do
       s ← text_of source t
       name ← unquote source s
-      gives (some (binding_of tree t name))
+      gives (Some (binding_of tree t name))
     in
     cond (eqb t.kind bare_word) bare (cond (eqb t.kind quoted_identifier) quoted on)
 extract_cte tree (node subtree children rest) source = extract_cte tree rest source
 
 -- `if let Some(binding) = extract_cte(..)`, then push
 unfoldable pub push_if_cte : QueryScope → Option Binding → QueryScope
-push_if_cte scope none = scope
-push_if_cte scope (some b) = push_cte scope b
+push_if_cte scope None = scope
+push_if_cte scope (Some b) = push_cte scope b
 
 -- fn collect_ctes(tree, source, scope)
 unfoldable pub collect_ctes : Forest → List ℕ → QueryScope → Call QueryScope
@@ -134,12 +131,12 @@ extract_alias_name (token t rest) source last_ident =
     let on : Call (Option Ident) = extract_alias_name rest source last_ident in
     let bare : Call (Option Ident) = do
       s ← text_of source t
-      extract_alias_name rest source (cond (says_as source s) last_ident (some (record { name = s; token = t })))
+      extract_alias_name rest source (cond (says_as source s) last_ident (Some (record { name = s; token = t })))
     in
     let quoted : Call (Option Ident) = do
       s ← text_of source t
       name ← unquote source s
-      extract_alias_name rest source (some (record { name = name; token = t }))
+      extract_alias_name rest source (Some (record { name = name; token = t }))
     in
     cond (eqb t.kind bare_word) bare (cond (eqb t.kind quoted_identifier) quoted on)
 extract_alias_name (node subtree children rest) source last_ident = extract_alias_name rest source last_ident
@@ -158,10 +155,10 @@ parts (node subtree children rest) source gathered = parts rest source gathered
 
 -- its `match parts.as_slice()`
 unfoldable pub by_parts : Rec → List Range → Option Reference
-by_parts tree [] = none
-by_parts tree (table ∷ []) = some (record { database = none; table = table; alias = none; tree = tree })
-by_parts tree (database ∷ table ∷ []) = some (record { database = some database; table = table; alias = none; tree = tree })
-by_parts tree (first ∷ second ∷ third ∷ more) = none
+by_parts tree [] = None
+by_parts tree (table ∷ []) = Some (record { database = None; table = table; alias = None; tree = tree })
+by_parts tree (database ∷ table ∷ []) = Some (record { database = Some database; table = table; alias = None; tree = tree })
+by_parts tree (first ∷ second ∷ third ∷ more) = None
 
 -- fn extract_table_identifier(tree, source)
 unfoldable pub extract_table_identifier : Rec → Forest → List ℕ → Call (Option Reference)
@@ -171,24 +168,24 @@ extract_table_identifier tree children source = do
 
 -- the flush of `last_table_ref`
 unfoldable pub flush : Option Reference → QueryScope → QueryScope
-flush none scope = scope
-flush (some tref) scope = push_table_ref scope tref
+flush None scope = scope
+flush (Some tref) scope = push_table_ref scope tref
 
 -- `if let Some(ref mut tref) = last_table_ref`: only then is the alias's name extracted
 unfoldable pub name_if_pending : Option Reference → Forest → List ℕ → Call (Option Ident)
-name_if_pending none children source = gives none
-name_if_pending (some tref) children source = extract_alias_name children source none
+name_if_pending None children source = gives None
+name_if_pending (Some tref) children source = extract_alias_name children source None
 
 -- and in it `if let Some((alias_name, alias_token))`: what becomes of the reference, and of the scope
 unfoldable pub set_alias : Option Reference → Option Ident → Option Reference
-set_alias none ident = none
-set_alias (some tref) none = some tref
-set_alias (some tref) (some i) = some (record { database = tref.database; table = tref.table; alias = some i.name; tree = tref.tree })
+set_alias None ident = None
+set_alias (Some tref) None = Some tref
+set_alias (Some tref) (Some i) = Some (record { database = tref.database; table = tref.table; alias = Some i.name; tree = tref.tree })
 
 unfoldable pub push_alias : Option Reference → Option Ident → Rec → QueryScope → QueryScope
-push_alias none ident subtree scope = scope
-push_alias (some tref) none subtree scope = scope
-push_alias (some tref) (some i) subtree scope = push_table_alias scope (binding_of subtree i.token i.name)
+push_alias None ident subtree scope = scope
+push_alias (Some tref) None subtree scope = scope
+push_alias (Some tref) (Some i) subtree scope = push_table_alias scope (binding_of subtree i.token i.name)
 
 -- fn collect_table_refs(tree, source, scope): `last_table_ref` is carried along, and flushed at the end
 unfoldable pub collect_table_refs : Option Reference → Forest → List ℕ → QueryScope → Call QueryScope
@@ -204,12 +201,12 @@ collect_table_refs last_table_ref (node subtree children rest) source scope =
       collect_table_refs (set_alias last_table_ref alias) rest source (push_alias last_table_ref alias subtree scope)
     in
     let on_expression : Call QueryScope = do
-      s ← collect_table_refs none children source scope
+      s ← collect_table_refs None children source scope
       collect_table_refs last_table_ref rest source s
     in
     let on_join : Call QueryScope = do
-      s ← collect_table_refs none children source (flush last_table_ref scope)
-      collect_table_refs none rest source s
+      s ← collect_table_refs None children source (flush last_table_ref scope)
+      collect_table_refs None rest source s
     in
     let on_other : Call QueryScope = collect_table_refs last_table_ref rest source scope in
     cond (eqb subtree.kind table_identifier) on_identifier
@@ -222,8 +219,8 @@ collect_table_refs last_table_ref (node subtree children rest) source scope =
 
 -- `if let Some((name, token)) = extract_alias_name(..)`, then push
 unfoldable pub push_if_alias : QueryScope → Rec → Option Ident → QueryScope
-push_if_alias scope subtree none = scope
-push_if_alias scope subtree (some i) = push_column_alias scope (binding_of subtree i.token i.name)
+push_if_alias scope subtree None = scope
+push_if_alias scope subtree (Some i) = push_column_alias scope (binding_of subtree i.token i.name)
 
 -- fn collect_column_aliases(tree, source, scope)
 unfoldable pub collect_column_aliases : Forest → List ℕ → QueryScope → Call QueryScope
@@ -231,7 +228,7 @@ collect_column_aliases nil source scope = gives scope
 collect_column_aliases (token t rest) source scope = collect_column_aliases rest source scope
 collect_column_aliases (node subtree children rest) source scope =
     let alias : Call QueryScope = do
-      i ← extract_alias_name children source none
+      i ← extract_alias_name children source None
       gives (push_if_alias scope subtree i)
     in
     let list : Call QueryScope = collect_column_aliases children source scope in
@@ -246,7 +243,7 @@ collect_column_aliases (node subtree children rest) source scope =
 unfoldable pub body : ℕ → Forest → List ℕ → (QueryScope → Call QueryScope) → QueryScope → Call QueryScope
 body kind children source loop scope =
     let tables : Call QueryScope = do
-      s ← collect_table_refs none children source scope
+      s ← collect_table_refs None children source scope
       loop s
     in
     let columns : Call QueryScope = do
@@ -297,19 +294,19 @@ is_statement_kind =
 
 -- `if let Some(found) = .. return Some(found)`, else the other
 unfoldable pub or_return : {A : Type 0} → Option A → Option A → Option A
-or_return none on = on
-or_return (some x) on = some x
+or_return None on = on
+or_return (Some x) on = Some x
 
 -- fn find_enclosing_statement(tree, offset), where `deeper` is what its loop over the children returns
 unfoldable pub enclosing : Rec → ℕ → Option Rec → Option Rec
 enclosing tree offset deeper =
-    cond (ltb tree.end tree.start) none
-    (cond (ltb offset tree.start || ltb tree.end offset) none
-    (or_return deeper (cond (is_statement_kind tree.kind) (some tree) none)))
+    cond (ltb tree.end tree.start) None
+    (cond (ltb offset tree.start || ltb tree.end offset) None
+    (or_return deeper (cond (is_statement_kind tree.kind) (Some tree) None)))
 
 -- that loop
 unfoldable pub deeper_statement : Forest → ℕ → Option Rec
-deeper_statement nil offset = none
+deeper_statement nil offset = None
 deeper_statement (token t rest) offset = deeper_statement rest offset
 deeper_statement (node subtree children rest) offset =
     let on : Option Rec = deeper_statement rest offset in
@@ -387,8 +384,8 @@ any_lone src (t ∷ ts) = is_lone src t || any_lone src ts
 
 -- 4294967295 twice where there is none
 unfoldable pub range_or : Option Range → Range
-range_or none = absent
-range_or (some r) = r
+range_or None = absent
+range_or (Some r) = r
 
 -- the Rust's entries as document 01 has them
 unfoldable pub as_binding : Binding → NameBinding
@@ -408,9 +405,9 @@ compared e = record { «record» = e.«record»; database = e.database.outer; ta
 unfoldable pub reference : Reference → Compared
 reference r = record { «record» = r.tree.index; database = range_or r.database; table = r.table; alias = range_or r.alias }
 
-unfoldable pub found : Option Rec → Enclosing
-found none = Outside
-found (some r) = Record r.index
+unfoldable pub found : Option Rec → Option ℕ
+found None = None
+found (Some r) = Some r.index
 
 -- what `build_scope` gives of the node that is record i
 abbrev pub scope_at : List ℕ → List ℕ → ℕ → Call QueryScope

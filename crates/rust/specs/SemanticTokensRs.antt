@@ -1,7 +1,6 @@
 -- semantic_tokens.rs, statement by statement, up to the encoding: the second reading of document 01's token classes.
 -- Definitions only; the theorem is `semantic-tokens-rs` in proofs/SemanticTokensRs.antt.
-use Rattle.std.specs.Prelude.{ℕ, ◌≡◌, Bool, false, cond, not, ◌&&◌, List, [], ◌∷◌, map, ltb, leb, eqb, length}
-use Rattle.std.proofs.Math.Option.{Option, none, some}
+use Rattle.std.specs.Prelude.{ℕ, ◌≡◌, Bool, false, cond, not, ◌&&◌, List, [], ◌∷◌, map, ltb, leb, eqb, length, Option, Some, None}
 use Rattle.records.specs.declared.record.Rec.{Rec}
 use Rattle.records.specs.Kinds.{table_identifier, table_expression, table_alias, column_alias, data_type, data_type_parameters, nested_data_type, function_call, aggregate_function, table_function, identifier, column_reference, qualified_name, query_parameter_expression, database_definition, table_definition, view_definition, materialized_view_definition, dictionary_definition, expression, comment, bare_word, quoted_identifier, number, string_token, here_doc, plus, arrow}
 use Rattle.records.specs.Table.{kind_at, records}
@@ -67,24 +66,24 @@ tables =
 -- fn classify_bareword(text, parent): one `if .. return` after the other
 unfoldable pub classify_bareword : List ℕ → ℕ → Option ℕ
 classify_bareword word parent =
-    cond (one_of (data_type ∷ data_type_parameters ∷ nested_data_type ∷ []) parent) (some TT_TYPE)
-    (cond (one_of (function_call ∷ aggregate_function ∷ table_function ∷ []) parent && not (is_keyword word)) (some TT_FUNCTION)
-    (cond (one_of tables parent && not (is_keyword word)) (some TT_PROPERTY)
-    (cond (eqb parent column_alias && not (is_keyword word)) (some TT_VARIABLE)
-    (cond (one_of (column_reference ∷ qualified_name ∷ identifier ∷ []) parent && not (is_keyword word)) (some TT_VARIABLE)
-    (cond (eqb parent query_parameter_expression) (some TT_PARAMETER)
-    (cond (is_keyword word) (some TT_KEYWORD)
-    (cond (eqb parent expression) (some TT_VARIABLE)
-    none)))))))
+    cond (one_of (data_type ∷ data_type_parameters ∷ nested_data_type ∷ []) parent) (Some TT_TYPE)
+    (cond (one_of (function_call ∷ aggregate_function ∷ table_function ∷ []) parent && not (is_keyword word)) (Some TT_FUNCTION)
+    (cond (one_of tables parent && not (is_keyword word)) (Some TT_PROPERTY)
+    (cond (eqb parent column_alias && not (is_keyword word)) (Some TT_VARIABLE)
+    (cond (one_of (column_reference ∷ qualified_name ∷ identifier ∷ []) parent && not (is_keyword word)) (Some TT_VARIABLE)
+    (cond (eqb parent query_parameter_expression) (Some TT_PARAMETER)
+    (cond (is_keyword word) (Some TT_KEYWORD)
+    (cond (eqb parent expression) (Some TT_VARIABLE)
+    None)))))))
 
 -- fn classify_identifier_by_parent(parent)
 unfoldable pub classify_identifier_by_parent : ℕ → Option ℕ
 classify_identifier_by_parent parent =
-    cond (one_of (function_call ∷ aggregate_function ∷ table_function ∷ []) parent) (some TT_FUNCTION)
-    (cond (one_of (data_type ∷ data_type_parameters ∷ nested_data_type ∷ []) parent) (some TT_TYPE)
-    (cond (one_of (table_identifier ∷ table_expression ∷ table_alias ∷ database_definition ∷ table_definition ∷ []) parent) (some TT_PROPERTY)
-    (cond (one_of (column_reference ∷ qualified_name ∷ column_alias ∷ identifier ∷ []) parent) (some TT_VARIABLE)
-    (some TT_VARIABLE))))
+    cond (one_of (function_call ∷ aggregate_function ∷ table_function ∷ []) parent) (Some TT_FUNCTION)
+    (cond (one_of (data_type ∷ data_type_parameters ∷ nested_data_type ∷ []) parent) (Some TT_TYPE)
+    (cond (one_of (table_identifier ∷ table_expression ∷ table_alias ∷ database_definition ∷ table_definition ∷ []) parent) (Some TT_PROPERTY)
+    (cond (one_of (column_reference ∷ qualified_name ∷ column_alias ∷ identifier ∷ []) parent) (Some TT_VARIABLE)
+    (Some TT_VARIABLE))))
 
 -- the fifteen operators of `classify_token`, Plus to Arrow
 abbrev pub operators : List ℕ
@@ -100,18 +99,18 @@ word_arm start end source parent = do
 -- fn classify_token(kind, start, end, source, parent)
 unfoldable pub classify_token : ℕ → ℕ → ℕ → List ℕ → ℕ → Call (Option ℕ)
 classify_token kind start end source parent =
-    cond (eqb kind comment) (gives (some TT_COMMENT))
-    (cond (eqb kind number) (gives (some TT_NUMBER))
-    (cond (one_of (string_token ∷ here_doc ∷ []) kind) (gives (some TT_STRING))
-    (cond (one_of operators kind) (gives (some TT_OPERATOR))
+    cond (eqb kind comment) (gives (Some TT_COMMENT))
+    (cond (eqb kind number) (gives (Some TT_NUMBER))
+    (cond (one_of (string_token ∷ here_doc ∷ []) kind) (gives (Some TT_STRING))
+    (cond (one_of operators kind) (gives (Some TT_OPERATOR))
     (cond (eqb kind quoted_identifier) (gives (classify_identifier_by_parent parent))
     (cond (eqb kind bare_word) (word_arm start end source parent)
-    (gives none))))))
+    (gives None))))))
 
 -- `if let Some(tt) = ..`, then `out.push((token.start, token.end, tt))`
 unfoldable pub push_class : List ClassedToken → Rec → Option ℕ → List ClassedToken
-push_class out t none = out
-push_class out t (some tt) = push out (record { start = t.start; end = t.end; class = tt })
+push_class out t None = out
+push_class out t (Some tt) = push out (record { start = t.start; end = t.end; class = tt })
 
 -- fn collect_tokens(tree, source, out), of a tree of this kind
 unfoldable pub collect_tokens : ℕ → Forest → List ℕ → List ClassedToken → Call (List ClassedToken)

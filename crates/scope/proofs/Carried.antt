@@ -6,8 +6,8 @@ use mathlib.Core.Bool.{cond}
 use mathlib.Core.List.{List, [], ◌∷◌, ◌++◌, append-nil, append_assoc}
 use native.Mathlib.Omega.{arith}
 use native.Mathlib.Nat.{zero-add, add-zero}
-use Rattle.lent.specs.declared.verdict.Verdict.{Verdict}
-use Rattle.lent.specs.declared.verdict.Verdict.TheVariants.{Admitted}
+use Rattle.std.specs.Prelude.{Ok}
+use Rattle.lent.specs.Verdicts.{Verdict}
 use Rattle.records.specs.declared.record.Rec.{Rec}
 use Rattle.records.specs.Kinds.{is_node}
 use Rattle.records.specs.Table.{count, kind_at, depth_at, parent_at, record_at, run, from, records}
@@ -58,7 +58,7 @@ module _ (src t : List ℕ) where
       rw (here, e) (sym (append_assoc (given_below src t i) (given_at src t i) (all (as_carried t (run t 0 (i + 1) n)))) ∙ rw (← below_next src t i) (carried_on n (i + 1)))
 
 -- THE THEOREM
-pub admitted-carries : (t : List ℕ) (n : ℕ) {v : Verdict} → v ≡ verdict t n 0 → v ≡ Admitted → Carries t
+pub admitted-carries : (t : List ℕ) (n : ℕ) {v : Verdict} → v ≡ verdict t n 0 → v ≡ Ok tt → Carries t
 admitted-carries t n e q = record { within = within; flat = flat }
   where
     w : Tidy t n

@@ -5,12 +5,11 @@
 use Prim.Native.Nat.{ℕ, ◌*◌, ◌≤◌, ◌<◌}
 use mathlib.Core.Path.{◌≡◌, sym}
 use mathlib.Core.Bool.{Bool, true, false, cond, ◌||◌}
-use mathlib.Core.Option.{Option, none, some}
 use mathlib.Core.List.{List, []}
 use native.Mathlib.Omega.{arith}
 use lib.Dec.{eqb}
 use lib.ListN.{length, length-append}
-use Rattle.lent.specs.declared.verdict.Verdict.TheVariants.{Admitted}
+use Rattle.std.specs.Prelude.{Ok, None, Option, Some}
 use Rattle.lent.specs.Numbers.{OfBytes}
 use Rattle.lent.specs.Fit32.{Fit32, AllFit32}
 use Rattle.lent.proofs.Fit32.{fit-lists, fit-chosen}
@@ -23,9 +22,8 @@ use Rattle.forest.specs.Limits.{Limited, size}
 use Rattle.forest.proofs.Limits.{Fitting, fitting-inherited, limited-inherited, admitted-limited, inside-size, stretch-limited, stretch-fits, stretch-size}
 use Rattle.forest.proofs.Sense.{admitted-tidy}
 use Rattle.classes.specs.declared.token_class.TokenClass.{TokenClass}
-use Rattle.classes.specs.declared.token_class.TokenClass.TheVariants.{Keyword, Function, StringLiteral, Number, Comment, Operator, Variable, TypeName, Parameter, Property, Unclassed}
+use Rattle.classes.specs.declared.token_class.TokenClass.TheVariants.{Keyword, Function, StringLiteral, Number, Comment, Operator, Variable, TypeName, Parameter, Property}
 use Rattle.classes.specs.TokenClass.{class_of, number_of}
-use Rattle.references.specs.declared.pending.Pending.TheVariants.{Nothing}
 use Rattle.names.specs.Names.{with_item, alias_in}
 use Rattle.names.specs.Bindings.{with_items, select_aliases, binding_row}
 use Rattle.names.proofs.Fitting.{items-fit, selected-fit, bound-few}
@@ -34,24 +32,30 @@ use Rattle.tables.specs.Tables.{references, aliases, table_reading}
 use Rattle.tables.proofs.Fitting.{read_fits, aliases-fit, read-few}
 use Rattle.collection.specs.Collection.{own_with, own_columns, own_tables}
 use Rattle.collection.proofs.Fitting.{collection-fits, collection-few}
-use Rattle.class_list.specs.Classes.{entry_with, entry_of, class_row, classes, classes_of}
+use Rattle.class_list.specs.Classes.{entry_of, class_row, classes, classes_of}
 use Rattle.lists.specs.Scope.{with_names, table_aliases, column_aliases, table_refs}
 
 -- ---- the classes
 
-entry-fits : (c : TokenClass) (s e : ℕ) → s < 4294967296 → e < 4294967296 → AllFit32 class_row (entry_of c s e)
-unfolding entry_of entry_with number_of AllFit32 Fit32
-entry-fits Keyword s e h g = ((h, (g, (omega arith, tt))), tt)
-entry-fits Function s e h g = ((h, (g, (omega arith, tt))), tt)
-entry-fits StringLiteral s e h g = ((h, (g, (omega arith, tt))), tt)
-entry-fits Number s e h g = ((h, (g, (omega arith, tt))), tt)
-entry-fits Comment s e h g = ((h, (g, (omega arith, tt))), tt)
-entry-fits Operator s e h g = ((h, (g, (omega arith, tt))), tt)
-entry-fits Variable s e h g = ((h, (g, (omega arith, tt))), tt)
-entry-fits TypeName s e h g = ((h, (g, (omega arith, tt))), tt)
-entry-fits Parameter s e h g = ((h, (g, (omega arith, tt))), tt)
-entry-fits Property s e h g = ((h, (g, (omega arith, tt))), tt)
-entry-fits Unclassed s e h g = tt
+class-fits : (c : TokenClass) → number_of c < 4294967296
+class-fits c = omega (arith, ten c)
+  where
+    ten : (c : TokenClass) → number_of c < 10
+    ten Keyword = omega arith
+    ten Function = omega arith
+    ten StringLiteral = omega arith
+    ten Number = omega arith
+    ten Comment = omega arith
+    ten Operator = omega arith
+    ten Variable = omega arith
+    ten TypeName = omega arith
+    ten Parameter = omega arith
+    ten Property = omega arith
+
+entry-fits : (c : Option TokenClass) (s e : ℕ) → s < 4294967296 → e < 4294967296 → AllFit32 class_row (entry_of c s e)
+unfolding entry_of AllFit32 Fit32
+entry-fits None s e h g = tt
+entry-fits (Some c) s e h g = ((h, (g, (class-fits c, tt))), tt)
 
 below-fit : (src : List ℕ) (p : ℕ) (f : Forest) → Limited f → AllFit32 class_row (classes src p f)
 unfolding classes Limited
@@ -61,18 +65,15 @@ below-fit src p (token r rest) w =
     (entry-fits (class_of src p r.kind r.start r.end) r.start r.end (omega (arith, w.0.1)) (omega (arith, w.0.1))) (below-fit src p rest w.1)
 below-fit src p (node r below rest) w = fit-lists class_row (classes src r.kind below) (classes src p rest) (below-fit src r.kind below w.1) (below-fit src p rest w.2)
 
-pub classes-fit : (src t : List ℕ) (n m : ℕ) → Admitted ≡ verdict t n m → AllFit32 class_row (classes_of src t)
+pub classes-fit : (src t : List ℕ) (n m : ℕ) → Ok tt ≡ verdict t n m → AllFit32 class_row (classes_of src t)
 classes-fit src t n m a = below-fit src (kind_at t 0) (kids (records 0 t)) (admitted-limited t n m a 0)
 
 -- how many: no more than records
 
-entry-one : (c : TokenClass) (s e : ℕ) → length (entry_of c s e) ≤ 1
-unfolding entry_of entry_with
-entry-one c s e = go (number_of c)
-  where
-    go : (n : Option ℕ) → length (entry_with n s e) ≤ 1
-    go none = omega arith
-    go (some n) = omega arith
+entry-one : (c : Option TokenClass) (s e : ℕ) → length (entry_of c s e) ≤ 1
+unfolding entry_of
+entry-one None s e = omega arith
+entry-one (Some c) s e = omega arith
 
 below-few : (src : List ℕ) (p : ℕ) (f : Forest) → length (classes src p f) ≤ size f
 unfolding classes size
@@ -81,7 +82,7 @@ below-few src p (token r rest) =
     omega (arith, length-append (entry_of (class_of src p r.kind r.start r.end) r.start r.end) (classes src p rest), entry-one (class_of src p r.kind r.start r.end) r.start r.end, below-few src p rest)
 below-few src p (node r below rest) = omega (arith, length-append (classes src r.kind below) (classes src p rest), below-few src r.kind below, below-few src p rest)
 
-pub classes-few : (src t : List ℕ) (n m : ℕ) → Admitted ≡ verdict t n m → length (classes_of src t) ≤ count t
+pub classes-few : (src t : List ℕ) (n m : ℕ) → Ok tt ≡ verdict t n m → length (classes_of src t) ≤ count t
 classes-few src t n m a = omega (arith, below-few src (kind_at t 0) (kids (records 0 t)), inside-size t 0 (admitted-tidy t n m (sym a)).some)
 
 -- ---- a node's own part of each list
@@ -89,11 +90,11 @@ classes-few src t n m a = omega (arith, below-few src (kind_at t 0) (kids (recor
 module _ (src : List ℕ) (k : ℕ) (f : Forest) where
   own-references-fit : Limited f → AllFit32 reference_row (own_tables references src k f)
   unfolding own_tables
-  own-references-fit w = fit-chosen reference_row (eqb k from_clause || eqb k join_clause) (table_reading references src Nothing f) [] (read_fits src f w) (unfold AllFit32 in tt)
+  own-references-fit w = fit-chosen reference_row (eqb k from_clause || eqb k join_clause) (table_reading references src None f) [] (read_fits src f w) (unfold AllFit32 in tt)
 
   own-aliases-fit : Fitting f → AllFit32 binding_row (own_tables aliases src k f)
   unfolding own_tables
-  own-aliases-fit w = fit-chosen binding_row (eqb k from_clause || eqb k join_clause) (table_reading aliases src Nothing f) [] (aliases-fit src f w) (unfold AllFit32 in tt)
+  own-aliases-fit w = fit-chosen binding_row (eqb k from_clause || eqb k join_clause) (table_reading aliases src None f) [] (aliases-fit src f w) (unfold AllFit32 in tt)
 
   own-with-fits : Fitting f → AllFit32 binding_row (own_with src k f)
   unfolding own_with
@@ -125,7 +126,7 @@ module _ (src : List ℕ) (k : ℕ) (f : Forest) where
 
 -- ---- the lists of a root
 
-module _ (src t : List ℕ) (n m i : ℕ) (a : Admitted ≡ verdict t n m) (h : i < count t) where
+module _ (src t : List ℕ) (n m i : ℕ) (a : Ok tt ≡ verdict t n m) (h : i < count t) where
   pub references-fit : AllFit32 reference_row (table_refs src t i)
   references-fit = collection-fits reference_row (own_tables references src) limited-inherited (own-references-fit src) _ _ (stretch-limited (admitted-tidy t n m (sym a)) i h)
 

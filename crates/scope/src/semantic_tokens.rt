@@ -6,17 +6,14 @@ ghost use Rattle.class_list.specs.Classes.{class_row, classes_of};
 
 use class_list::class_list::list_classes;
 use keywords::keywords::{KEYWORDS, STARTS};
-use lent::list::Listed;
-use lent::verdict::Verdict;
+use lent::refusal::Refusal;
 use table::check::check;
 
 // The question: start, end and class of every classed token, in order.
-pub fn token_classes(table: &[u8], source: &[u8], out: &mut [u8]) -> Listed
+pub fn token_classes(table: &[u8], source: &[u8], out: &mut [u8]) -> Result<u32, Refusal>
     ensures { Answers (rules table.now (length source.now) 0) class_row
         (classes_of source.now table.now) out.old result out.new }
 {
-    match check(table, source) {
-        Verdict::Refused(k, d) => Listed::Refused(k, d),
-        Verdict::Admitted => list_classes(&KEYWORDS, &STARTS, table, source, out),
-    }
+    check(table, source)?;
+    list_classes(&KEYWORDS, &STARTS, table, source, out)
 }

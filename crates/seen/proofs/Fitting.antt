@@ -8,7 +8,7 @@ use mathlib.Core.List.{List, [], ◌∷◌, ◌++◌}
 use native.Mathlib.Omega.{arith}
 use lib.Dec.{eqb}
 use lib.ListN.{length, length-append}
-use Rattle.lent.specs.declared.verdict.Verdict.TheVariants.{Admitted}
+use Rattle.std.specs.Prelude.{Ok}
 use Rattle.lent.specs.Numbers.{OfBytes}
 use Rattle.lent.specs.Fit32.{AllFit32}
 use Rattle.lent.proofs.Fit32.{fit-lists, fit-chosen}
@@ -117,7 +117,7 @@ own-few src t n k f = go (eqb k with_clause)
 
 -- ---- of the root i, as the inner query n sees it
 
-module _ (src t : List ℕ) (l m n i : ℕ) (a : Admitted ≡ verdict t l m) (h : i < count t) where
+module _ (src t : List ℕ) (l m n i : ℕ) (a : Ok tt ≡ verdict t l m) (h : i < count t) where
   pub seen-fits : OfBytes t → AllFit32 binding_row (seen_of src t n i)
   seen-fits b = collection-fits binding_row (own_seen src t n) fitting-inherited (own-fits src t n) _ _ (stretch-fits (admitted-tidy t l m (sym a)) b i h)
 

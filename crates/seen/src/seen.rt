@@ -42,25 +42,21 @@ pub fn collect_seen(
     let k = depth_at(s, 0) + 1;
     let mut reach = k;
     let mut next = at;
-    let mut i = 1;
-    while i < m {
+    for i in 1..m {
         let d = depth_at(s, i);
         if d < k {
             return next;
         }
         if reach < d {
-            i += 1;
-        } else {
-            let kind = kind_at(s, i);
-            if kind == WITH_CLAUSE {
-                next = collect_items(table, n, root + i, source, out, next);
-                reach = d;
-                i += 1;
-            } else {
-                reach = reach_below(d, visits(kind));
-                i += 1;
-            }
+            continue;
         }
+        let kind = kind_at(s, i);
+        if kind == WITH_CLAUSE {
+            next = collect_items(table, n, root + i, source, out, next);
+            reach = d;
+            continue;
+        }
+        reach = reach_below(d, visits(kind));
     }
     next
 }

@@ -9,7 +9,6 @@ ghost use Rattle.starts.specs.inner.Ready.{Ready, Begun};
 use conditions::whole::{MOST_OFFSETS, OFFSET_BYTES};
 use forest::stretch::child_from;
 use lent::number::word_at;
-use path::rules::chosen;
 use records::range::is_holder;
 use records::record::count_of;
 
@@ -36,13 +35,13 @@ fn pass_child(
 {
     let n = offsets.len() / OFFSET_BYTES;
     let mut moved = false;
-    let mut c = 0;
-    while c < n {
+    // by an index: of a slice that is written through a zip of its iter_mut a proof knows only the length
+    for c in 0..n {
         let at = starts[c];
         let on = goes_on(table, i, at, word_at(offsets, OFFSET_BYTES * c));
-        starts[c] = chosen(on, next, at);
-        moved = moved | on;
-        c += 1;
+        // chosen without a branch: by one, 64 cursors on a short page take half as many instructions more
+        starts[c] = if on { next } else { at };
+        moved |= on;
     }
     moved
 }
@@ -57,6 +56,7 @@ pub fn begin_all(table: &[u8], offsets: &[u8], first: usize, starts: &mut [usize
     }
     let m = count_of(table);
     let mut i = first;
+    // While, not for: the next child begins where the records of this one end.
     while i < m {
         let next = child_from(table, i + 1);
         if !pass_child(table, offsets, i, next, starts) {

@@ -7,18 +7,17 @@ use mathlib.Core.List.Memᴰ
 use mathlib.Core.List.{List}
 use native.Mathlib.Omega.{arith}
 use native.Mathlib.Nat.{zero-add}
-use Rattle.lent.specs.declared.verdict.Verdict.TheVariants.{Admitted}
+use Rattle.std.specs.Prelude.{Ok, Some}
 use Rattle.records.specs.declared.record.Rec.{Rec}
 use Rattle.records.specs.Table.{record_at}
 use Rattle.conditions.specs.Conditions.{most_records}
 use Rattle.table.specs.Rules.{verdict}
 use Rattle.forest.proofs.Sense.{admitted-tidy}
 use Rattle.forest.proofs.Places.{stands}
-use Rattle.statement.specs.declared.statement.Enclosing.TheVariants.{Record}
 use Rattle.statement.specs.Statement.{enclosing_at}
 use Rattle.statement.proofs.Statements.{given-first}
 
-pub statement-within : (t : List ℕ) (n m o : ℕ) → Admitted ≡ verdict t n m → {i : ℕ} → enclosing_at t o ≡ Record i → i < most_records
+pub statement-within : (t : List ℕ) (n m o : ℕ) → Ok tt ≡ verdict t n m → {i : ℕ} → enclosing_at t o ≡ Some i → i < most_records
 unfolding record_at
 statement-within t n m o a {i} e =
     let y = admitted-tidy t n m (sym a) in

@@ -10,6 +10,7 @@ use native.Mathlib.Numerals.{add-one}
 use native.Mathlib.Nat.{zero-add}
 use native.Mathlib.Omega.{arith}
 use borrow.Author.Tests.{lt-ltb, le-ltb, le-leb, lt-leb}
+use Rattle.std.specs.Prelude.{Option, Some, None}
 use Rattle.lent.proofs.Cases.{lt-or-le}
 use Rattle.records.specs.declared.record.Rec.{Rec}
 use Rattle.records.specs.Kinds.{is_node, last_node}
@@ -19,10 +20,8 @@ use Rattle.forest.specs.Forest.{Forest, nil, token, node, level, kids, Reached}
 use Rattle.forest.specs.inner.Scan.{fold}
 use Rattle.forest.proofs.Laws.{node-or-token, level-shallow, level-deep, level-token, level-node, from_cons}
 use Rattle.forest.proofs.Scans.{sweep, Sweep, sweep-start, sweep-end, sweep-stop, sweep-token, sweep-into, sweep-past, sweep-far}
-use Rattle.statement.specs.declared.statement.Enclosing.{Enclosing}
-use Rattle.statement.specs.declared.statement.Enclosing.TheVariants.{Outside, Record}
 use Rattle.statement.specs.Statement.{is_statement, itself, or_else, first_find}
-use Rattle.statement.specs.inner.Search.{Sofar, given, met, passing}
+use Rattle.statement.specs.inner.Search.{Sofar, met, passing}
 
 -- ---- the tree is as deep as its records say
 
@@ -84,15 +83,15 @@ module _ (o : ℕ) where
   -- ---- what the pass makes of siblings: nothing, where the search finds none; else the find, and it is past them
 
   record Finds (k : ℕ) (s s' : Sofar) (n : ℕ) : Type 0 where
-    best : s'.best ≡ suc n
+    best : s'.best ≡ Some n
     past : k < s'.floor
 
-  unfoldable Made : ℕ → Sofar → Sofar → Enclosing → Type 0
-  Made k s s' Outside = s' ≡ s
-  Made k s s' (Record n) = Finds k s s' n
+  unfoldable Made : ℕ → Sofar → Sofar → Option ℕ → Type 0
+  Made k s s' None = s' ≡ s
+  Made k s s' (Some n) = Finds k s s' n
 
   abbrev here : Sofar → Rec → Sofar
-  here s r = cond (is_statement r.kind) (record { best = r.index + 1; floor = r.depth + 1 }) s
+  here s r = cond (is_statement r.kind) (record { best = Some r.index; floor = r.depth + 1 }) s
 
   made : (k : ℕ) (f : Forest) (s : Sofar) → AtDepth k f → s.floor ≤ k → Made k s (fold (passing o) s f) (first_find o f)
   unfolding fold passing AtDepth Made first_find or_else
@@ -102,95 +101,85 @@ module _ (o : ℕ) where
       rw (le-leb s.floor r.depth (omega (arith, a.0)))
       (go (holds o r) (made (k + 1) below (here s r) a.1 (shallow (is_statement r.kind) refl)) (made k rest s a.2 h))
     where
-      shallow : (b : Bool) → is_statement r.kind ≡ b → (cond b (record { best = r.index + 1; floor = r.depth + 1 }) s).floor ≤ k + 1
+      shallow : (b : Bool) → is_statement r.kind ≡ b → (cond b (record { best = Some r.index; floor = r.depth + 1 }) s).floor ≤ k + 1
       shallow true e = omega (arith, a.0)
       shallow false e = omega arith
 
       -- with e found in it
-      after : (e : Enclosing) (s' : Sofar) → Made (k + 1) (here s r) s' e → Made k s (fold (passing o) s rest) (first_find o rest)
+      after : (e : Option ℕ) (s' : Sofar) → Made (k + 1) (here s r) s' e → Made k s (fold (passing o) s rest) (first_find o rest)
           → Made k s (fold (passing o) s' rest) (or_else (or_else e (itself r.kind r.index)) (first_find o rest))
-      after (Record n) s' i j =
+      after (Some n) s' i j =
           let h : k < s'.floor = omega (arith, i.past) in
           rw (fold-past k rest s' a.2 h) (record { best = i.best; past = h })
-      after Outside s' i j = rw i (itself-or (is_statement r.kind) refl)
+      after None s' i j = rw i (itself-or (is_statement r.kind) refl)
         where
-          itself-or : (b : Bool) → is_statement r.kind ≡ b → Made k s (fold (passing o) (cond b (record { best = r.index + 1; floor = r.depth + 1 }) s) rest)
-              (or_else (or_else Outside (cond b (Record r.index) Outside)) (first_find o rest))
+          itself-or : (b : Bool) → is_statement r.kind ≡ b → Made k s (fold (passing o) (cond b (record { best = Some r.index; floor = r.depth + 1 }) s) rest)
+              (or_else (or_else None (cond b (Some r.index) None)) (first_find o rest))
           itself-or true e =
               let h : k < r.depth + 1 = omega (arith, a.0) in
-              rw (fold-past k rest (record { best = r.index + 1; floor = r.depth + 1 }) a.2 h) (record { best = add-one r.index; past = h })
+              rw (fold-past k rest (record { best = Some r.index; floor = r.depth + 1 }) a.2 h) (record { best = refl; past = h })
           itself-or false e = j
 
       go : (b : Bool) → Made (k + 1) (here s r) (fold (passing o) (here s r) below) (first_find o below) → Made k s (fold (passing o) s rest) (first_find o rest)
-          → Made k s (fold (passing o) (cond b (fold (passing o) (cond (b && is_statement r.kind) (record { best = r.index + 1; floor = r.depth + 1 }) s) below) (cond (b && is_statement r.kind) (record { best = r.index + 1; floor = r.depth + 1 }) s)) rest)
-          (or_else (cond b (or_else (first_find o below) (itself r.kind r.index)) Outside) (first_find o rest))
+          → Made k s (fold (passing o) (cond b (fold (passing o) (cond (b && is_statement r.kind) (record { best = Some r.index; floor = r.depth + 1 }) s) below) (cond (b && is_statement r.kind) (record { best = Some r.index; floor = r.depth + 1 }) s)) rest)
+          (or_else (cond b (or_else (first_find o below) (itself r.kind r.index)) None) (first_find o rest))
       go true i j = after (first_find o below) (fold (passing o) (here s r) below) i j
       go false i j = j
 
   -- THE LAW
-  pass-finds : (k : ℕ) (rs : List Rec) (s : Sofar) → s.floor ≤ k → given (fold (passing o) s (level k rs)).best ≡ or_else (first_find o (level k rs)) (given s.best)
+  pass-finds : (k : ℕ) (rs : List Rec) (s : Sofar) → s.floor ≤ k → (fold (passing o) s (level k rs)).best ≡ or_else (first_find o (level k rs)) s.best
   pass-finds k rs s h = go (first_find o (level k rs)) (made k (level k rs) s (at-depth k rs) h)
     where
-      go : (e : Enclosing) → Made k s (fold (passing o) s (level k rs)) e → given (fold (passing o) s (level k rs)).best ≡ or_else e (given s.best)
-      go Outside m = unfold Made or_else in ap (λ (x : Sofar). given x.best) m
-      go (Record n) m = unfold Made or_else given in rw m.best
+      go : (e : Option ℕ) → Made k s (fold (passing o) s (level k rs)) e → (fold (passing o) s (level k rs)).best ≡ or_else e s.best
+      go None m = unfold Made or_else in ap (λ (x : Sofar). x.best) m
+      go (Some n) m = unfold Made or_else in m.best
 
--- ---- the number plus one
+-- ---- record 0 itself
 
-pub given-none : {best : ℕ} → best ≡ 0 → Outside ≡ given best
-unfolding given
-given-none e = rw e
-
-pub given-some : (best : ℕ) → (best ≡ 0 → ⊥) → Record (best - 1) ≡ given best
-unfolding given
-given-some zero h = absurd (h refl)
-given-some (suc n) h = ap Record (let z : suc n - 1 ≡ n = omega arith in z)
-
-given-itself : (k : ℕ) {best : ℕ} → ((is_statement k ≡ true) × (best ≡ 1)) ⊎ ((is_statement k ≡ false) × (best ≡ 0)) → given best ≡ itself k 0
-unfolding given
-given-itself k q = ⊎_elim (λ x. rw (x.0, x.1)) (λ x. rw (x.0, x.1)) q
+by-itself : (k : ℕ) {best : Option ℕ} → ((is_statement k ≡ true) × (best ≡ Some 0)) ⊎ ((is_statement k ≡ false) × (best ≡ None)) → best ≡ itself k 0
+by-itself k q = ⊎_elim (λ x. rw (x.0, x.1)) (λ x. rw (x.0, x.1)) q
 
 -- ---- the loop at record i, where k is the depth of record 0's children
 
-abbrev sofar : ℕ → ℕ → Sofar
+abbrev sofar : Option ℕ → ℕ → Sofar
 sofar best floor = record { best = best; floor = floor }
 
-pub record Passing (o : ℕ) (t : List ℕ) (i best floor : ℕ) : Type 0 where
+pub record Passing (o : ℕ) (t : List ℕ) (i : ℕ) (best : Option ℕ) (floor : ℕ) : Type 0 where
   pub some : 0 < count t
-  pub first : ℕ
-  pub root : given first ≡ itself (kind_at t 0) 0
+  pub first : Option ℕ
+  pub root : first ≡ itself (kind_at t 0) 0
   pub reach : ℕ
   pub left : Sweep (passing o) t 0 (depth_at t 0 + 1) reach i (sofar best floor) (fold (passing o) (sofar first (depth_at t 0 + 1)) (kids (records 0 t)))
   pub near : i < count t → depth_at t i ≤ reach
   pub below : depth_at t 0 < floor
 
-pub pass-start : (o : ℕ) (t : List ℕ) {best k i : ℕ} → 0 < count t → ((is_statement (kind_at t 0) ≡ true) × (best ≡ 1)) ⊎ ((is_statement (kind_at t 0) ≡ false) × (best ≡ 0)) → k ≡ depth_at t 0 + 1
+pub pass-start : (o : ℕ) (t : List ℕ) {best : Option ℕ} {k i : ℕ} → 0 < count t → ((is_statement (kind_at t 0) ≡ true) × (best ≡ Some 0)) ⊎ ((is_statement (kind_at t 0) ≡ false) × (best ≡ None)) → k ≡ depth_at t 0 + 1
     → Reached t k 1 i → Passing o t i best k
 pass-start o t {best} h b e v =
     rw e
     (record {
       some = h;
       first = best;
-      root = given-itself (kind_at t 0) b;
+      root = by-itself (kind_at t 0) b;
       reach = depth_at t 0 + 1;
       left = sweep-far (sweep-start (passing o) t 0 _ h refl) (omega arith) (rw e at v);
       near = λ g. rw e at (v.depth g);
       below = omega arith;
     })
 
-module _ {o : ℕ} {t : List ℕ} {i best floor : ℕ} (w : Passing o t i best floor) where
-  whole : sofar best floor ≡ fold (passing o) (sofar w.first (depth_at t 0 + 1)) (kids (records 0 t)) → given best ≡ or_else (first_find o (kids (records 0 t))) (itself (kind_at t 0) 0)
+module _ {o : ℕ} {t : List ℕ} {i : ℕ} {best : Option ℕ} {floor : ℕ} (w : Passing o t i best floor) where
+  whole : sofar best floor ≡ fold (passing o) (sofar w.first (depth_at t 0 + 1)) (kids (records 0 t)) → best ≡ or_else (first_find o (kids (records 0 t))) (itself (kind_at t 0) 0)
   unfolding kids record_at
   whole e =
-      ap (λ (s : Sofar). given s.best) e
+      ap (λ (s : Sofar). s.best) e
       ∙ rw (from_cons t 0 0 w.some, ← w.root) (pass-finds o (depth_at t 0 + 1) (from t 0 1) (sofar w.first (depth_at t 0 + 1)) (omega arith))
 
-  pub pass-end : count t ≤ i → given best ≡ or_else (first_find o (kids (records 0 t))) (itself (kind_at t 0) 0)
+  pub pass-end : count t ≤ i → best ≡ or_else (first_find o (kids (records 0 t))) (itself (kind_at t 0) 0)
   pass-end h = whole (sweep-end w.left h)
 
   module _ (h : i < count t) where
     -- past the statement
-    pub pass-past : depth_at t i < floor → given best ≡ or_else (first_find o (kids (records 0 t))) (itself (kind_at t 0) 0)
+    pub pass-past : depth_at t i < floor → best ≡ or_else (first_find o (kids (records 0 t))) (itself (kind_at t 0) 0)
     unfolding passing record_at
     pass-past d =
         ⊎_elim
@@ -204,8 +193,8 @@ module _ {o : ℕ} {t : List ℕ} {i best floor : ℕ} (w : Passing o t i best f
 
     module _ {d : ℕ} (e : d ≡ depth_at t i) (l : floor ≤ d) where
       -- a node that holds the offset
-      pub pass_on : {best' floor' r : ℕ} → (is_node (kind_at t i) && spans o (start_at t i) (end_at t i)) ≡ true
-          → ((is_statement (kind_at t i) ≡ true) × (best' ≡ i + 1) × (floor' ≡ d + 1)) ⊎ ((is_statement (kind_at t i) ≡ false) × (best' ≡ best) × (floor' ≡ floor))
+      pub pass_on : {best' : Option ℕ} {floor' r : ℕ} → (is_node (kind_at t i) && spans o (start_at t i) (end_at t i)) ≡ true
+          → ((is_statement (kind_at t i) ≡ true) × (best' ≡ Some i) × (floor' ≡ d + 1)) ⊎ ((is_statement (kind_at t i) ≡ false) × (best' ≡ best) × (floor' ≡ floor))
           → Reached t (d + 1) (i + 1) r → Passing o t r best' floor'
       unfolding passing record_at
       pass_on {best'} {floor'} b q v =

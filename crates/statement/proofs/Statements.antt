@@ -9,46 +9,32 @@ use mathlib.Core.Bool.{Bool, true, false, cond}
 use mathlib.Core.List.Memᴰ
 use mathlib.Core.List.{List, [], ◌∷◌, ◌++◌, append_assoc, Memᴰ}
 use native.Mathlib.Omega.{arith}
+use Rattle.std.specs.Prelude.{Ok, Err, Result, Option, Some, None}
+use Rattle.lent.specs.declared.refusal.Refusal.{Refusal}
+use Rattle.lent.specs.Verdicts.{Verdict}
 use Rattle.records.specs.declared.record.Rec.{Rec}
-use Rattle.lent.specs.declared.verdict.Verdict.{Verdict}
-use Rattle.lent.specs.declared.verdict.Verdict.TheVariants.{Admitted, Refused}
 use Rattle.records.specs.Table.{kind_at, start_at, end_at, record_at, records}
 use Rattle.forest.specs.Forest.{Forest, nil, token, node, kids}
 use Rattle.forest.specs.Places.{Place, places, nodes_of}
-use Rattle.statement.specs.declared.statement.Enclosing.{Enclosing}
-use Rattle.statement.specs.declared.statement.Enclosing.TheVariants.{Outside, Record}
-use Rattle.statement.specs.declared.statement.StatementReply.{StatementReply}
-use Rattle.statement.specs.declared.statement.StatementReply.TheVariants.{Refused as Denied}
 use Rattle.records.specs.Ranges.{spans, holds}
-use Rattle.statement.specs.Statement.{is_statement, itself, or_else, first_find, enclosing_at, told, statement_reply, Hold, Innermost, FirstInnermost, NoCandidate}
+use Rattle.statement.specs.Statement.{is_statement, itself, or_else, first_find, enclosing_at, Hold, Innermost, FirstInnermost, NoCandidate}
 
 -- ---- the search from record 0
 
 module _ (t : List ℕ) (o : ℕ) where
-  else-none : (e : Enclosing) → or_else e Outside ≡ e
+  else-none : (e : Option ℕ) → or_else e None ≡ e
   unfolding or_else
-  else-none Outside = refl
-  else-none (Record n) = refl
+  else-none None = refl
+  else-none (Some n) = refl
 
-  pub root-holds : {x y : Enclosing} → spans o (start_at t 0) (end_at t 0) ≡ true → x ≡ first_find o (kids (records 0 t))
+  pub root-holds : {x y : Option ℕ} → spans o (start_at t 0) (end_at t 0) ≡ true → x ≡ first_find o (kids (records 0 t))
       → y ≡ or_else x (itself (kind_at t 0) 0) → y ≡ enclosing_at t o
   unfolding enclosing_at first_find record_at
   root-holds h e q = rw (h, ← e, ← q) (sym (else-none _))
 
-  pub root-outside : spans o (start_at t 0) (end_at t 0) ≡ false → Outside ≡ enclosing_at t o
+  pub root-outside : spans o (start_at t 0) (end_at t 0) ≡ false → None ≡ enclosing_at t o
   unfolding enclosing_at first_find record_at or_else
   root-outside h = rw h
-
--- ---- the reply
-
-module _ {v w : Verdict} (e : v ≡ w) (x : Enclosing) where
-  pub reply-refused : {k d : ℕ} → v ≡ Refused k d → Denied k d ≡ statement_reply w x
-  unfolding statement_reply
-  reply-refused q = rw (← e, q)
-
-  pub reply-told : {r : StatementReply} {y : Enclosing} → v ≡ Admitted → y ≡ x → r ≡ told y → r ≡ statement_reply w x
-  unfolding statement_reply
-  reply-told q p s = rw (← e, q, ← p) s
 
 -- ---- what the search finds
 
@@ -74,15 +60,15 @@ clash e = let z : ◌≡◌ {A = ℕ} 0 1 = cc in omega arith
 
 module _ (o : ℕ) where
   -- what a search among siblings finds of the nodes there
-  unfoldable Finds : Enclosing → List Place → Type 0
-  Finds Outside ps = NoCandidate o ps
-  Finds (Record n) ps = FirstInnermost o ps n
+  unfoldable Finds : Option ℕ → List Place → Type 0
+  Finds None ps = NoCandidate o ps
+  Finds (Some n) ps = FirstInnermost o ps n
 
   -- nodes that have no innermost candidate in front of others
-  in-front : (xs : List Place) (e : Enclosing) (ps : List Place) → NoCandidate o xs → Finds e ps → Finds e (xs ++ ps)
+  in-front : (xs : List Place) (e : Option ℕ) (ps : List Place) → NoCandidate o xs → Finds e ps → Finds e (xs ++ ps)
   unfolding Finds
-  in-front xs Outside ps n f = λ q m. ⊎_elim (n q) (f q) (Memᴰ.append_cases xs m)
-  in-front xs (Record k) ps n f =
+  in-front xs None ps n f = λ q m. ⊎_elim (n q) (f q) (Memᴰ.append_cases xs m)
+  in-front xs (Some k) ps n f =
       record {
         before = xs ++ f.before;
         it = f.it;
@@ -113,7 +99,7 @@ module _ (o : ℕ) where
     unfolding Finds
     alone e a n = go (is_statement r.kind) refl
       where
-        go : (b : Bool) → is_statement r.kind ≡ b → Finds (cond b (Record r.index) Outside) (here ∷ places (r ∷ above) below)
+        go : (b : Bool) → is_statement r.kind ≡ b → Finds (cond b (Some r.index) None) (here ∷ places (r ∷ above) below)
         go true s =
             record {
               before = [];
@@ -145,11 +131,11 @@ module _ (o : ℕ) where
         inner : (q : Place) → q ≡ here → Innermost o q → ⊥
         inner q a i = (rw a at i).none_inside f.it member f.innermost.candidate
 
-    node-finds : (e : Enclosing) → holds o r ≡ true → Hold o above → Finds e (places (r ∷ above) below)
+    node-finds : (e : Option ℕ) → holds o r ≡ true → Hold o above → Finds e (places (r ∷ above) below)
         → Finds (or_else e (itself r.kind r.index)) (here ∷ places (r ∷ above) below)
     unfolding Finds or_else
-    node-finds Outside h a f = alone h a f
-    node-finds (Record k) h a f = within k f
+    node-finds None h a f = alone h a f
+    node-finds (Some k) h a f = within k f
 
   -- one after the other
   behind : (n : ℕ) (ps qs : List Place) → FirstInnermost o ps n → FirstInnermost o (ps ++ qs) n
@@ -164,10 +150,10 @@ module _ (o : ℕ) where
         none_before = f.none_before;
       }
 
-  both : (d e : Enclosing) (ps qs : List Place) → Finds d ps → Finds e qs → Finds (or_else d e) (ps ++ qs)
+  both : (d e : Option ℕ) (ps qs : List Place) → Finds d ps → Finds e qs → Finds (or_else d e) (ps ++ qs)
   unfolding Finds or_else
-  both Outside e ps qs f g = in-front ps e qs f g
-  both (Record n) e ps qs f g = behind n ps qs f
+  both None e ps qs f g = in-front ps e qs f g
+  both (Some n) e ps qs f g = behind n ps qs f
 
   finds : (f : Forest) (above : List Rec) → Hold o above → Finds (first_find o f) (places above f)
   unfolding first_find places Finds Hold
@@ -177,7 +163,7 @@ module _ (o : ℕ) where
       both _ (first_find o rest) (here r below above ∷ places (r ∷ above) below) (places above rest) (go (holds o r) refl (λ h. finds below (r ∷ above) (h, a))) (finds rest above a)
     where
       go : (b : Bool) → holds o r ≡ b → (holds o r ≡ true → Finds (first_find o below) (places (r ∷ above) below))
-          → Finds (cond b (or_else (first_find o below) (itself r.kind r.index)) Outside) (here r below above ∷ places (r ∷ above) below)
+          → Finds (cond b (or_else (first_find o below) (itself r.kind r.index)) None) (here r below above ∷ places (r ∷ above) below)
       go true h f = node-finds r below above (first_find o below) h a (f h)
       go false h f = outside r below above h
 
@@ -186,14 +172,14 @@ module _ (t : List ℕ) (o : ℕ) where
   unfolding enclosing_at Hold
   table-finds = finds o _ [] tt
 
-  pub given-first : (n : ℕ) → enclosing_at t o ≡ Record n → FirstInnermost o (nodes_of t) n
+  pub given-first : (n : ℕ) → enclosing_at t o ≡ Some n → FirstInnermost o (nodes_of t) n
   unfolding Finds
   given-first n e = rw e at table-finds
 
-  pub none-exactly : (enclosing_at t o ≡ Outside → NoCandidate o (nodes_of t)) × (NoCandidate o (nodes_of t) → enclosing_at t o ≡ Outside)
+  pub none-exactly : (enclosing_at t o ≡ None → NoCandidate o (nodes_of t)) × (NoCandidate o (nodes_of t) → enclosing_at t o ≡ None)
   unfolding Finds
   none-exactly = ((λ e. rw e at table-finds), λ n. go n (enclosing_at t o) table-finds)
     where
-      go : NoCandidate o (nodes_of t) → (e : Enclosing) → Finds o e (nodes_of t) → e ≡ Outside
-      go n Outside f = refl
-      go n (Record k) f = absurd (n f.it (rw f.whole (Memᴰ.append_right f.before (Memᴰ.head refl))) f.innermost.candidate)
+      go : NoCandidate o (nodes_of t) → (e : Option ℕ) → Finds o e (nodes_of t) → e ≡ None
+      go n None f = refl
+      go n (Some k) f = absurd (n f.it (rw f.whole (Memᴰ.append_right f.before (Memᴰ.head refl))) f.innermost.candidate)

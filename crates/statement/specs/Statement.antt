@@ -1,18 +1,14 @@
 -- Document 01, Cursor, "Enclosing statement", and what it is without following the search.
 -- Definitions only; the theorem is in proofs/Statements.antt.
-use Rattle.std.specs.Prelude.{ℕ, ◌≡◌, Bool, true, cond, ◌&&◌, leb}
+use Rattle.lent.specs.declared.refusal.Refusal.{Refusal}
+use Rattle.lent.specs.Verdicts.{Verdict}
+use Rattle.std.specs.Prelude.{ℕ, ◌≡◌, Bool, true, cond, ◌&&◌, leb, Ok, Err, Result, Option, Some, None}
 use mathlib.Core.List.{List, [], ◌∷◌, ◌++◌, Memᴰ}
 use Rattle.records.specs.declared.record.Rec.{Rec}
-use Rattle.lent.specs.declared.verdict.Verdict.{Verdict}
-use Rattle.lent.specs.declared.verdict.Verdict.TheVariants.{Admitted, Refused}
 use Rattle.records.specs.Kinds.{select_statement, describe_statement}
 use Rattle.forest.specs.Forest.{Forest, nil, token, node}
 use Rattle.forest.specs.Sense.{tree_of}
 use Rattle.forest.specs.Places.{Place, places}
-use Rattle.statement.specs.declared.statement.Enclosing.{Enclosing}
-use Rattle.statement.specs.declared.statement.Enclosing.TheVariants.{Outside, Record}
-use Rattle.statement.specs.declared.statement.StatementReply.{StatementReply}
-use Rattle.statement.specs.declared.statement.StatementReply.TheVariants.{Statement, NoStatement, Refused as Denied}
 use Rattle.records.specs.Ranges.{holds}
 
 -- kinds 4 to 13
@@ -20,36 +16,27 @@ abbrev pub is_statement : ℕ → Bool
 is_statement k = leb select_statement k && leb k describe_statement
 
 -- itself if kind 4 to 13
-abbrev pub itself : ℕ → ℕ → Enclosing
-itself k i = cond (is_statement k) (Record i) Outside
+abbrev pub itself : ℕ → ℕ → Option ℕ
+itself k i = cond (is_statement k) (Some i) None
 
 -- this find, or else that one
-unfoldable pub or_else : Enclosing → Enclosing → Enclosing
-or_else Outside other = other
-or_else (Record n) other = Record n
+unfoldable pub or_else : Option ℕ → Option ℕ → Option ℕ
+or_else None other = other
+or_else (Some n) other = Some n
 
 -- the first find among siblings: a node that is empty or doesn't hold the offset gives none; else the first find among its child
 -- nodes, else itself if kind 4 to 13
-unfoldable pub first_find : ℕ → Forest → Enclosing
-first_find o nil = Outside
+unfoldable pub first_find : ℕ → Forest → Option ℕ
+first_find o nil = None
 first_find o (token r rest) = first_find o rest
 first_find o (node r below rest) =
-    let found : Enclosing = or_else (first_find o below) (itself r.kind r.index) in
-    let on : Enclosing = first_find o rest in
-    or_else (cond (holds o r) found Outside) on
+    let found : (Option ℕ) = or_else (first_find o below) (itself r.kind r.index) in
+    let on : (Option ℕ) = first_find o rest in
+    or_else (cond (holds o r) found None) on
 
 -- the enclosing statement
-unfoldable pub enclosing_at : List ℕ → ℕ → Enclosing
+unfoldable pub enclosing_at : List ℕ → ℕ → Option ℕ
 enclosing_at t o = first_find o (tree_of t)
-
--- none is a plain reply
-unfoldable pub told : Enclosing → StatementReply
-told Outside = NoStatement
-told (Record n) = Statement n
-
-unfoldable pub statement_reply : Verdict → Enclosing → StatementReply
-statement_reply Admitted e = told e
-statement_reply (Refused k d) e = Denied k d
 
 -- ---- without following the search
 

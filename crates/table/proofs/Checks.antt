@@ -13,9 +13,10 @@ use native.Mathlib.Omega.{arith}
 use borrow.Author.Tests.{ltb-true, ltb-false, eqb-true, eqb-false}
 use lib.Dec.{eqb, ltb}
 use lib.ListN.{length}
-use Rattle.lent.specs.declared.verdict.Verdict.{Verdict}
-use Rattle.lent.specs.declared.verdict.Verdict.TheVariants.{Admitted, Refused}
-use Rattle.lent.specs.Verdicts.{rule, first}
+use Rattle.std.specs.Prelude.{Ok, Err}
+use Rattle.lent.specs.declared.refusal.Condition.TheVariants.{BadLength, TooLong, NoRoot}
+use Rattle.lent.specs.declared.refusal.Refusal.{Refusal}
+use Rattle.lent.specs.Verdicts.{rule, first, Verdict, refused}
 use Rattle.lent.proofs.Verdicts.{then-refused, then-admitted, unbroken, last-unbroken}
 use Rattle.lent.proofs.Cases.{lt-or-le}
 use Rattle.records.specs.Kinds.{is_node}
@@ -54,32 +55,32 @@ some t e =
 
 -- ---- what the check says, of the rules
 module _ (t : List ℕ) (n m : ℕ) {v : Verdict} (e : v ≡ verdict t n m) where
-  pub rules-refused : {k d : ℕ} → v ≡ Refused k d → Refused k d ≡ first (rules t n m)
+  pub rules-refused : {r : Refusal} → v ≡ Err r → Err r ≡ first (rules t n m)
   unfolding verdict
   rules-refused q = sym q ∙ e
 
-  pub rules-passed : v ≡ Admitted → Admitted ≡ first (rules t n m)
+  pub rules-passed : v ≡ Ok tt → Ok tt ≡ first (rules t n m)
   unfolding verdict
   rules-passed q = sym q ∙ e
 
 -- ---- the check of a named root
 module _ (t : List ℕ) (n i : ℕ) where
-  pub root-refused : {k d : ℕ} → Refused k d ≡ verdict t n 0 → Refused k d ≡ root_verdict t n i
+  pub root-refused : {r : Refusal} → Err r ≡ verdict t n 0 → Err r ≡ root_verdict t n i
   unfolding verdict root_verdict
   root-refused e = then-refused (rules t n 0) _ e
 
-  pub root_none : Admitted ≡ verdict t n 0 → no_root t i ≡ true → Refused 8 0 ≡ root_verdict t n i
+  pub root_none : Ok tt ≡ verdict t n 0 → no_root t i ≡ true → refused NoRoot 0 ≡ root_verdict t n i
   unfolding verdict root_verdict
-  root_none e h = sym (then-admitted (rules t n 0) (rule 8 0 (no_root t i) ∷ []) e ∙ rw h)
+  root_none e h = sym (then-admitted (rules t n 0) (rule NoRoot 0 (no_root t i) ∷ []) e ∙ rw h)
 
-  pub root-admitted : Admitted ≡ verdict t n 0 → no_root t i ≡ false → Admitted ≡ root_verdict t n i
+  pub root-admitted : Ok tt ≡ verdict t n 0 → no_root t i ≡ false → Ok tt ≡ root_verdict t n i
   unfolding verdict root_verdict
-  root-admitted e h = sym (then-admitted (rules t n 0) (rule 8 0 (no_root t i) ∷ []) e ∙ rw h)
+  root-admitted e h = sym (then-admitted (rules t n 0) (rule NoRoot 0 (no_root t i) ∷ []) e ∙ rw h)
 
 -- where a question's root is admitted, there are at most 4,096 records, and the root is one of them
-pub root-known : (t : List ℕ) (n i : ℕ) → Admitted ≡ root_verdict t n i → (count t ≤ most_records) × (i < count t)
+pub root-known : (t : List ℕ) (n i : ℕ) → Ok tt ≡ root_verdict t n i → (count t ≤ most_records) × (i < count t)
 unfolding root_verdict
-root-known t n i e = (few t (unbroken (rule 1 0 (bad_length t)) (rule 2 0 (too_long n 0) ∷ (rules_from t n 0 (count t) ++ rule 8 0 (no_root t i) ∷ [])) e), within (ltb i (count t)) (is_node (kind_at t i)) refl (last-unbroken (rules t n 0) (rule 8 0 (no_root t i)) e))
+root-known t n i e = (few t (unbroken (rule BadLength 0 (bad_length t)) (rule TooLong 0 (too_long n 0) ∷ (rules_from t n 0 (count t) ++ rule NoRoot 0 (no_root t i) ∷ [])) e), within (ltb i (count t)) (is_node (kind_at t i)) refl (last-unbroken (rules t n 0) (rule NoRoot 0 (no_root t i)) e))
   where
     within : (a b : Bool) → ltb i (count t) ≡ a → not (a && b) ≡ false → i < count t
     within true b q h = ltb-true i (count t) q

@@ -14,14 +14,14 @@ use native.Mathlib.Numerals.{add-one}
 use borrow.Author.Tests.{lt-ltb, le-ltb, le-leb, eq-eqb, ltb-true, leb-true, eqb-true}
 use lib.ListN.{length}
 use lib.Dec.{ltb, leb, eqb}
-use Rattle.lent.specs.declared.verdict.Verdict.{Verdict}
-use Rattle.lent.specs.declared.verdict.Verdict.TheVariants.{Admitted, Refused}
+use Rattle.std.specs.Prelude.{Ok, Err}
+use Rattle.lent.specs.declared.refusal.Condition.TheVariants.{UnlistedKind, Misplaced, BadLength as A-length, TooLong as A-limit, TooDeep as A-depth, WrongParent as A-parent, BadSpan as A-span}
 use Rattle.records.specs.Kinds.{is_node, is_token, expression, other_token, arrow}
 use Rattle.records.specs.Table.{record_bytes, count, kind_at, depth_at, start_at, end_at, parent_at}
 use Rattle.conditions.specs.Conditions.{most_records, most_depth, most_source, most_message, most_offsets, offset_bytes, bad_length, too_long, bad_offsets, unlisted, misplaced, too_deep, nearest, wrong_parent, bad_span, last_end}
 use Rattle.refusals.specs.ByRecord.{rules_from}
 use Rattle.table.specs.Rules.{verdict}
-use Rattle.lent.specs.Verdicts.{Rule, first}
+use Rattle.lent.specs.Verdicts.{Rule, refused, first, Verdict, number_of, IsRefused}
 use Rattle.table.specs.Exactly.{Broken, broken-1, broken-2, broken-3, broken-4, broken-5, broken-12, broken-6, rank, place, Least, Token, BadLength, TooLong, BadOffsets, Unlisted, MisplacedFirst, MisplacedLater, TooDeep, NearestBefore, NoneBefore, WrongParent, EndsAfter, BadSpan}
 use Rattle.lent.proofs.Cases.{lt-or-le}
 
@@ -106,10 +106,10 @@ module _ (t : List ℕ) (n m : ℕ) where
   abbrev Nothing : ℕ → Type 0
   Nothing i = (k d : ℕ) → Broken t n m k d → 3 ≤ k → i ≤ d → ⊥
 
-  at-rule : (i j k d : ℕ) → Refused j i ≡ Refused k d → Broken t n m j i → 3 ≤ j → Clear i (rank j) → From i k d
+  at-rule : (i j k d : ℕ) → (j ≡ k) × (i ≡ d) → Broken t n m j i → 3 ≤ j → Clear i (rank j) → From i k d
   at-rule i j k d e b l c =
-      let p : j ≡ k = cc in
-      let q : i ≡ d = cc in
+      let p : j ≡ k = e.0 in
+      let q : i ≡ d = e.1 in
       record {
         here = rw (p, q) at b;
         late = omega arith;
@@ -130,7 +130,7 @@ module _ (t : List ℕ) (n m : ℕ) where
   module _ (i : ℕ) (h : i < count t) (more : List Rule) where
     abbrev told : Bool → Bool → Bool → Bool → Bool → Verdict
     told p q r x s =
-        cond p (Refused 3 i) (cond q (Refused 4 i) (cond r (Refused 5 i) (cond x (Refused 12 i) (cond s (Refused 6 i) (first more)))))
+        cond p (refused UnlistedKind i) (cond q (refused Misplaced i) (cond r (refused A-depth i) (cond x (refused A-parent i) (cond s (refused A-span i) (first more)))))
 
     -- what is known where the rules before place j are kept
     up_to : (j : ℕ) → (3 < j → unlisted t i ≡ false) → (4 < j → misplaced t i ≡ false) → (5 < j → too_deep t i ≡ false)
@@ -138,7 +138,7 @@ module _ (t : List ℕ) (n m : ℕ) where
     up_to j a b c x e = record { kept-3 = a; kept-4 = b; kept-5 = c; kept-12 = x; kept-6 = e }
 
     record-refused : (k d : ℕ) → (p q r x s : Bool) → unlisted t i ≡ p → misplaced t i ≡ q → too_deep t i ≡ r → wrong_parent t i ≡ x → bad_span t n i ≡ s
-        → told p q r x s ≡ Refused k d → (Clear i 8 → first more ≡ Refused k d → From i k d) → From i k d
+        → IsRefused (told p q r x s) k d → (Clear i 8 → IsRefused (first more) k d → From i k d) → From i k d
     record-refused k d true q r x s a b c f e v on =
         let z = of-3 refl in
         at-rule i 3 k d v (broken-3 refl h a) (omega arith)
@@ -162,7 +162,7 @@ module _ (t : List ℕ) (n m : ℕ) where
     record-refused k d false false false false false a b c f e v on = on (up_to 8 (λ y. a) (λ y. b) (λ y. c) (λ y. f) (λ y. e)) v
 
     record-admitted : (p q r x s : Bool) → unlisted t i ≡ p → misplaced t i ≡ q → too_deep t i ≡ r → wrong_parent t i ≡ x → bad_span t n i ≡ s
-        → told p q r x s ≡ Admitted → Clear i 8 × (first more ≡ Admitted)
+        → told p q r x s ≡ Ok tt → Clear i 8 × (first more ≡ Ok tt)
     record-admitted true q r x s a b c f e v = absurd (let z : ◌≡◌ {A = ℕ} 0 1 = cc in omega arith)
     record-admitted false true r x s a b c f e v = absurd (let z : ◌≡◌ {A = ℕ} 0 1 = cc in omega arith)
     record-admitted false false true x s a b c f e v = absurd (let z : ◌≡◌ {A = ℕ} 0 1 = cc in omega arith)
@@ -170,9 +170,9 @@ module _ (t : List ℕ) (n m : ℕ) where
     record-admitted false false false false true a b c f e v = absurd (let z : ◌≡◌ {A = ℕ} 0 1 = cc in omega arith)
     record-admitted false false false false false a b c f e v = (up_to 8 (λ y. a) (λ y. b) (λ y. c) (λ y. f) (λ y. e), v)
 
-  from-refused : (c i : ℕ) → i + c ≡ count t → (k d : ℕ) → first (rules_from t n i c) ≡ Refused k d → From i k d
+  from-refused : (c i : ℕ) → i + c ≡ count t → (k d : ℕ) → IsRefused (first (rules_from t n i c)) k d → From i k d
   unfolding rules_from
-  from-refused zero i z k d v = absurd (let z : ◌≡◌ {A = ℕ} 0 1 = cc in omega arith)
+  from-refused zero i z k d v = absurd v
   from-refused (suc c) i z k d v =
       record-refused i (omega arith) (rules_from t n (suc i) c) k d (unlisted t i) (misplaced t i) (too_deep t i) (wrong_parent t i) (bad_span t n i)
       refl refl refl refl refl v (λ l w. next i l k d (from-refused c (suc i) (omega arith) k d w))
@@ -187,7 +187,7 @@ module _ (t : List ℕ) (n m : ℕ) where
   inside k d (broken-12 e q b) l = q
   inside k d (broken-6 e q b) l = q
 
-  from-admitted : (c i : ℕ) → i + c ≡ count t → first (rules_from t n i c) ≡ Admitted → Nothing i
+  from-admitted : (c i : ℕ) → i + c ≡ count t → first (rules_from t n i c) ≡ Ok tt → Nothing i
   unfolding rules_from
   from-admitted zero i z v k d b l h = omega (arith, inside k d b l)
   from-admitted (suc c) i z v k d b l h =
@@ -245,28 +245,28 @@ module _ (t : List ℕ) (n m : ℕ) where
   place-second p k d (broken-6 e q b) = rw (place-late k d (omega arith)) (omega (arith, of-6 e))
 
   -- the first two rules before what follows
-  refused→ : (k d : ℕ) → verdict t n m ≡ Refused k d → Least t n m k d
+  refused→ : (k d : ℕ) → IsRefused (verdict t n m) k d → Least t n m k d
   unfolding verdict
   refused→ k d = go (bad_length t) (too_long n m) refl refl
     where
       go : (p q : Bool) → bad_length t ≡ p → too_long n m ≡ q
-          → cond p (Refused 1 0) (cond q (Refused 2 0) (first (rules_from t n 0 (count t)))) ≡ Refused k d → Least t n m k d
+          → IsRefused (cond p (refused A-length 0) (cond q (refused A-limit 0) (first (rules_from t n 0 (count t))))) k d → Least t n m k d
       go true q a b v =
-          let e : 1 ≡ k = cc in
-          let z : 0 ≡ d = cc in
+          let e : 1 ≡ k = v.0 in
+          let z : 0 ≡ d = v.1 in
           rw (← e, ← z) (record { holds = broken-1 refl refl a; none_before = λ k' d' x. rw (place-early 1 0 (omega arith)) (place-first k' d' x) })
       go false true a b v =
-          let e : 2 ≡ k = cc in
-          let z : 0 ≡ d = cc in
+          let e : 2 ≡ k = v.0 in
+          let z : 0 ≡ d = v.1 in
           rw (← e, ← z) (record { holds = broken-2 refl refl b; none_before = λ k' d' x. rw (place-early 2 0 (omega arith)) (place-second a k' d' x) })
       go false false a b v = from-least k d a b (from-refused (count t) 0 (omega arith) k d v)
 
-  admitted→ : verdict t n m ≡ Admitted → (k d : ℕ) → Broken t n m k d → ⊥
+  admitted→ : verdict t n m ≡ Ok tt → (k d : ℕ) → Broken t n m k d → ⊥
   unfolding verdict
   admitted→ = go (bad_length t) (too_long n m) refl refl
     where
       go : (p q : Bool) → bad_length t ≡ p → too_long n m ≡ q
-          → cond p (Refused 1 0) (cond q (Refused 2 0) (first (rules_from t n 0 (count t)))) ≡ Admitted → (k d : ℕ) → Broken t n m k d → ⊥
+          → cond p (refused A-length 0) (cond q (refused A-limit 0) (first (rules_from t n 0 (count t)))) ≡ Ok tt → (k d : ℕ) → Broken t n m k d → ⊥
       go true q a b v k d x = let z : ◌≡◌ {A = ℕ} 0 1 = cc in omega arith
       go false true a b v k d x = let z : ◌≡◌ {A = ℕ} 0 1 = cc in omega arith
       go false false a b v k d (broken-1 e z x) = clash a x
@@ -296,28 +296,28 @@ module _ (t : List ℕ) (n m : ℕ) where
       (lt-or-le k' 3))
       (lt-or-le k 3)
 
-  refused← : (k d : ℕ) → Least t n m k d → verdict t n m ≡ Refused k d
+  refused← : (k d : ℕ) → Least t n m k d → IsRefused (verdict t n m) k d
   refused← k d l = go (verdict t n m) refl
     where
-      go : (v : Verdict) → verdict t n m ≡ v → verdict t n m ≡ Refused k d
-      go Admitted e = absurd (admitted→ e k d l.holds)
-      go (Refused k' d') e =
-          let r = refused→ k' d' e in
-          let s = same_place k' d' k d r.holds l.holds (omega (arith, r.none_before k d l.holds, l.none_before k' d' r.holds)) in
-          e ∙ rw (s.0, s.1)
+      go : (v : Verdict) → verdict t n m ≡ v → IsRefused v k d
+      go (Ok tt) e = admitted→ e k d l.holds
+      go (Err x) e =
+          let r = refused→ (number_of x.condition) x.detail (rw e (refl, refl)) in
+          same_place (number_of x.condition) x.detail k d r.holds l.holds
+          (omega (arith, r.none_before k d l.holds, l.none_before (number_of x.condition) x.detail r.holds))
 
-  admitted← : ((k d : ℕ) → Broken t n m k d → ⊥) → verdict t n m ≡ Admitted
+  admitted← : ((k d : ℕ) → Broken t n m k d → ⊥) → verdict t n m ≡ Ok tt
   admitted← h = go (verdict t n m) refl
     where
-      go : (v : Verdict) → verdict t n m ≡ v → verdict t n m ≡ Admitted
-      go Admitted e = e
-      go (Refused k d) e = absurd (h k d (refused→ k d e).holds)
+      go : (v : Verdict) → verdict t n m ≡ v → verdict t n m ≡ Ok tt
+      go (Ok tt) e = e
+      go (Err x) e = absurd (h (number_of x.condition) x.detail (refused→ (number_of x.condition) x.detail (rw e (refl, refl))).holds)
 
   -- THE THEOREM
-  pub refused-exactly : (k d : ℕ) → (verdict t n m ≡ Refused k d) ↔ Least t n m k d
+  pub refused-exactly : (k d : ℕ) → IsRefused (verdict t n m) k d ↔ Least t n m k d
   refused-exactly k d = (refused→ k d, refused← k d)
 
-  pub admitted-exactly : (verdict t n m ≡ Admitted) ↔ ((k d : ℕ) → Broken t n m k d → ⊥)
+  pub admitted-exactly : (verdict t n m ≡ Ok tt) ↔ ((k d : ℕ) → Broken t n m k d → ⊥)
   admitted-exactly = (admitted→, admitted←)
 
 -- ---- each condition in plain words

@@ -6,6 +6,8 @@ use mathlib.Core.Bool.{Bool, true, false}
 use mathlib.Core.List.{List, [], ◌∷◌, ◌++◌, map, append_assoc}
 use native.Mathlib.Omega.{arith}
 use lib.Dec.{eqb}
+use Rattle.names.specs.declared.names.NameBinding.{NameBinding}
+use Rattle.std.specs.Prelude.{Option, Some, None}
 use Rattle.records.specs.declared.record.Rec.{Rec}
 use Rattle.records.specs.Kinds.{join_clause, table_identifier, table_expression, table_alias}
 use Rattle.records.specs.Table.{count, kind_at, record_at, records, part}
@@ -13,11 +15,7 @@ use Rattle.forest.specs.Forest.{Forest, nil, token, node, kids, stretch_end}
 use Rattle.lent.proofs.Writes.{written_none}
 use Rattle.forest.proofs.Laws.{head-part}
 use Rattle.forest.proofs.Writing.{writing, writing-turn}
-use Rattle.names.specs.declared.names.Bound.{Bound}
-use Rattle.names.specs.declared.names.Bound.TheVariants.{Unnamed, Named}
 use Rattle.references.specs.declared.pending.TableRef.{TableRef}
-use Rattle.references.specs.declared.pending.Pending.{Pending}
-use Rattle.references.specs.declared.pending.Pending.TheVariants.{Nothing, Held}
 use Rattle.tables.specs.declared.tables.Reads.{Reads}
 use Rattle.tables.specs.declared.tables.Reads.TheVariants.{Aliases, References}
 use Rattle.names.specs.Names.{is_part, direct, alias_in}
@@ -30,39 +28,39 @@ use Rattle.records.proofs.Fields.{kind-yes, kind-no, index_of}
 
 -- ---- the table reading: what is written of the pending reference and of an alias
 
-pub hand-none : (p : Pending) → hand_on (rows_of Aliases) p ≡ []
+pub hand-none : (p : Option TableRef) → hand_on (rows_of Aliases) p ≡ []
 unfolding hand_on rows_of
-hand-none Nothing = refl
-hand-none (Held t) = refl
+hand-none None = refl
+hand-none (Some t) = refl
 
-pub hand-held : (t : TableRef) → hand_on (rows_of References) (Held t) ≡ map reference_row (t ∷ [])
+pub hand-held : (t : TableRef) → hand_on (rows_of References) (Some t) ≡ map reference_row (t ∷ [])
 unfolding hand_on rows_of
 hand-held t = refl
 
-pub hand-nothing : (reads : Reads) → hand_on (rows_of reads) Nothing ≡ []
+pub hand-nothing : (reads : Reads) → hand_on (rows_of reads) None ≡ []
 unfolding hand_on
 hand-nothing reads = refl
 
-pub alias-none : (p : Pending) (b : Bound) → list_alias (rows_of References) p b ≡ []
+pub alias-none : (p : Option TableRef) (b : Option NameBinding) → list_alias (rows_of References) p b ≡ []
 unfolding list_alias rows_of
-alias-none Nothing b = refl
-alias-none (Held t) Unnamed = refl
-alias-none (Held t) (Named b) = refl
+alias-none None b = refl
+alias-none (Some t) None = refl
+alias-none (Some t) (Some b) = refl
 
-pub alias-idle : (reads : Reads) (p : Pending) (b : Bound) {x : Bool} → x ≡ pends p → x ≡ false → list_alias (rows_of reads) p b ≡ []
+pub alias-idle : (reads : Reads) (p : Option TableRef) (b : Option NameBinding) {x : Bool} → x ≡ pends p → x ≡ false → list_alias (rows_of reads) p b ≡ []
 unfolding list_alias
-alias-idle reads Nothing b e y = refl
-alias-idle reads (Held t) b e y = absurd (let z : ◌≡◌ {A = ℕ} 0 1 = cc in omega arith)
+alias-idle reads None b e y = refl
+alias-idle reads (Some t) b e y = absurd (let z : ◌≡◌ {A = ℕ} 0 1 = cc in omega arith)
 
-pub alias-held : (p : Pending) (b : Bound) {x : Bool} → x ≡ pends p → x ≡ true → list_alias (rows_of Aliases) p b ≡ map binding_row (entry b)
+pub alias-held : (p : Option TableRef) (b : Option NameBinding) {x : Bool} → x ≡ pends p → x ≡ true → list_alias (rows_of Aliases) p b ≡ map binding_row (entry b)
 unfolding list_alias rows_of entry
-alias-held Nothing b e y = absurd (let z : ◌≡◌ {A = ℕ} 0 1 = cc in omega arith)
-alias-held (Held t) Unnamed e y = refl
-alias-held (Held t) (Named b) e y = refl
+alias-held None b e y = absurd (let z : ◌≡◌ {A = ℕ} 0 1 = cc in omega arith)
+alias-held (Some t) None e y = refl
+alias-held (Some t) (Some b) e y = refl
 
 -- ---- the table reading: what it has yet to read with p pending, at a record of each kind
 
-module _ {E : Type 0} (L : Listing E) (src : List ℕ) (p : Pending) (r : Rec) (below f : Forest) where
+module _ {E : Type 0} (L : Listing E) (src : List ℕ) (p : Option TableRef) (r : Rec) (below f : Forest) where
   at_name : eqb r.kind table_identifier ≡ true → table_reading L src p (node r below f) ≡ hand_on L p ++ table_reading L src (fresh src r.index (direct is_part below)) f
   unfolding table_reading
   at_name e = rw e
@@ -74,12 +72,12 @@ module _ {E : Type 0} (L : Listing E) (src : List ℕ) (p : Pending) (r : Rec) (
     at-alias e = rw (a, e)
 
     module _ (b : eqb r.kind table_alias ≡ false) where
-      at_table : eqb r.kind table_expression ≡ true → table_reading L src p (node r below f) ≡ table_reading L src Nothing below ++ table_reading L src p f
+      at_table : eqb r.kind table_expression ≡ true → table_reading L src p (node r below f) ≡ table_reading L src None below ++ table_reading L src p f
       unfolding table_reading
       at_table e = rw (a, b, e)
 
       module _ (c : eqb r.kind table_expression ≡ false) where
-        at_join : eqb r.kind join_clause ≡ true → table_reading L src p (node r below f) ≡ hand_on L p ++ (table_reading L src Nothing below ++ table_reading L src Nothing f)
+        at_join : eqb r.kind join_clause ≡ true → table_reading L src p (node r below f) ≡ hand_on L p ++ (table_reading L src None below ++ table_reading L src None f)
         unfolding table_reading
         at_join e = rw (a, b, c, e)
 
@@ -87,12 +85,12 @@ module _ {E : Type 0} (L : Listing E) (src : List ℕ) (p : Pending) (r : Rec) (
         unfolding table_reading
         at_other e = rw (a, b, c, e)
 
-module _ {E : Type 0} (L : Listing E) (src : List ℕ) (p : Pending) (s : List ℕ) (base i : ℕ) (f : Forest) where
-  pub read_name : {q : Pending} (below : Forest) → kind_at s i ≡ table_identifier → q ≡ fresh src (base + i) (direct is_part below)
+module _ {E : Type 0} (L : Listing E) (src : List ℕ) (p : Option TableRef) (s : List ℕ) (base i : ℕ) (f : Forest) where
+  pub read_name : {q : Option TableRef} (below : Forest) → kind_at s i ≡ table_identifier → q ≡ fresh src (base + i) (direct is_part below)
       → table_reading L src p (node (record_at s base i) below f) ≡ hand_on L p ++ table_reading L src q f
   read_name below e q = at_name L src p _ below f (kind-yes s base i e) ∙ rw (index_of s base i, q)
 
-  pub read-alias : {q : Pending} {b : Bound} {t : List ℕ} → i < count s → t ≡ part s i (stretch_end s i) → kind_at s i ≡ table_alias
+  pub read-alias : {q : Option TableRef} {b : Option NameBinding} {t : List ℕ} → i < count s → t ≡ part s i (stretch_end s i) → kind_at s i ≡ table_alias
       → b ≡ alias_in src (record_at t (base + i) 0) (kids (records (base + i) t)) → q ≡ aliased p b
       → table_reading L src p (node (record_at s base i) (kids (records (base + i) t)) f) ≡ list_alias L p b ++ table_reading L src q f
   read-alias h t e b q =
@@ -100,26 +98,26 @@ module _ {E : Type 0} (L : Listing E) (src : List ℕ) (p : Pending) (s : List �
       ∙ rw (q, b, head-part s base i h t)
 
   module _ (below : Forest) where
-    pub read_table : kind_at s i ≡ table_expression → table_reading L src p (node (record_at s base i) below f) ≡ table_reading L src Nothing below ++ table_reading L src p f
+    pub read_table : kind_at s i ≡ table_expression → table_reading L src p (node (record_at s base i) below f) ≡ table_reading L src None below ++ table_reading L src p f
     read_table e = at_table L src p _ below f (kind-no s base i table_identifier (λ x. omega arith)) (kind-no s base i table_alias (λ x. omega arith)) (kind-yes s base i e)
 
     pub read_join : kind_at s i ≡ join_clause
-        → table_reading L src p (node (record_at s base i) below f) ≡ (hand_on L p ++ table_reading L src Nothing below) ++ table_reading L src Nothing f
+        → table_reading L src p (node (record_at s base i) below f) ≡ (hand_on L p ++ table_reading L src None below) ++ table_reading L src None f
     read_join e =
         at_join L src p _ below f (kind-no s base i table_identifier (λ x. omega arith)) (kind-no s base i table_alias (λ x. omega arith)) (kind-no s base i table_expression (λ x. omega arith)) (kind-yes s base i e)
-        ∙ sym (append_assoc (hand_on L p) (table_reading L src Nothing below) (table_reading L src Nothing f))
+        ∙ sym (append_assoc (hand_on L p) (table_reading L src None below) (table_reading L src None f))
 
     pub read-other : (kind_at s i ≡ table_identifier → ⊥) → (kind_at s i ≡ table_alias → ⊥) → (kind_at s i ≡ table_expression → ⊥) → (kind_at s i ≡ join_clause → ⊥)
         → table_reading L src p (node (record_at s base i) below f) ≡ table_reading L src p f
     read-other a b c d =
         at_other L src p _ below f (kind-no s base i table_identifier a) (kind-no s base i table_alias b) (kind-no s base i table_expression c) (kind-no s base i join_clause d)
 
-pub read-end : {E : Type 0} (L : Listing E) (src : List ℕ) (p : Pending) → table_reading L src p nil ≡ hand_on L p
+pub read-end : {E : Type 0} (L : Listing E) (src : List ℕ) (p : Option TableRef) → table_reading L src p nil ≡ hand_on L p
 unfolding table_reading
 read-end L src p = refl
 
 -- a token adds nothing to what is written
-pub reading-passes : {E : Type 0} (row : E → List ℕ) (L : Listing E) (src : List ℕ) (p : Pending) (out : List ℕ) (at : ℕ) (r : Rec) (f : Forest)
+pub reading-passes : {E : Type 0} (row : E → List ℕ) (L : Listing E) (src : List ℕ) (p : Option TableRef) (out : List ℕ) (at : ℕ) (r : Rec) (f : Forest)
     → writing row (table_reading L src p) out at (token r f) ≡ writing row (table_reading L src p) out at f
 unfolding table_reading
 reading-passes row L src p out at r f = writing-turn row (table_reading L src p) (table_reading L src p) (token r f) f refl (written_none row out at)

@@ -4,100 +4,79 @@
 --     alias-set      after an alias it is the reference that the alias makes of it
 -- Assumes nothing.
 use Prim.Native.Nat.{ℕ, ◌+◌}
-use mathlib.Core.Path.{◌≡◌, refl, sym, ap, ◌∙◌}
-use mathlib.Core.Bool.{Bool, true, false, cond}
+use mathlib.Core.Path.{◌≡◌, refl, sym, ◌∙◌}
+use mathlib.Core.Bool.{Bool}
 use mathlib.Core.List.{List}
-use borrow.Author.Tests.{eq-eqb, ne_eqb}
-use lib.Dec.{eqb}
+use Rattle.references.specs.declared.pending.TableRef.{TableRef}
+use Rattle.std.specs.Prelude.{Option, Some, None}
 use Rattle.records.specs.Table.{record_at, records, part}
 use Rattle.forest.specs.Forest.{kids, stretch_end}
 use Rattle.names.specs.declared.names.NameBinding.{NameBinding}
-use Rattle.names.specs.declared.names.Bound.{Bound}
-use Rattle.names.specs.declared.names.Bound.TheVariants.{Unnamed, Named}
 use Rattle.names.specs.Names.{is_part, direct, alias_in}
-use Rattle.references.specs.declared.pending.Pending.{Pending}
-use Rattle.references.specs.declared.pending.Pending.TheVariants.{Nothing, Held}
 use Rattle.references.specs.References.{fresh}
 use Rattle.references.specs.inner.Pending.{pends}
 use Rattle.tables.specs.Tables.{aliased}
 use Rattle.tables.specs.inner.Waiting.{fresh_at, bound_at, pending_at, newer, alias_after}
 
-unnamed-keeps : (p : Pending) → p ≡ aliased p Unnamed
+unnamed-keeps : (p : Option TableRef) → p ≡ aliased p None
 unfolding aliased
-unnamed-keeps Nothing = refl
-unnamed-keeps (Held t) = refl
+unnamed-keeps None = refl
+unnamed-keeps (Some t) = refl
 
-later-sets : (p : Pending) (c : Bound) (z : NameBinding) → aliased p (Named z) ≡ aliased (aliased p c) (Named z)
+later-sets : (p : Option TableRef) (c : Option NameBinding) (z : NameBinding) → aliased p (Some z) ≡ aliased (aliased p c) (Some z)
 unfolding aliased
-later-sets Nothing c z = refl
-later-sets (Held t) Unnamed z = refl
-later-sets (Held t) (Named y) z = refl
+later-sets None c z = refl
+later-sets (Some t) None z = refl
+later-sets (Some t) (Some y) z = refl
 
-alias-keeps : (p : Pending) (b : Bound) → pends (aliased p b) ≡ pends p
+alias-keeps : (p : Option TableRef) (b : Option NameBinding) → pends (aliased p b) ≡ pends p
 unfolding aliased
-alias-keeps Nothing b = refl
-alias-keeps (Held t) Unnamed = refl
-alias-keeps (Held t) (Named z) = refl
+alias-keeps None b = refl
+alias-keeps (Some t) None = refl
+alias-keeps (Some t) (Some z) = refl
 
 module _ (src : List ℕ) (base : ℕ) (s : List ℕ) where
   -- ---- the cases
 
-  pub waiting_none : {n : ℕ} (a : ℕ) → n ≡ 0 → Nothing ≡ pending_at src base s n a
-  unfolding pending_at
-  waiting_none {n} a e = rw (eq-eqb n 0 e)
-
-  module _ {n : ℕ} (h : n ≡ 0 → ⊥) {t : List ℕ} (p : t ≡ part s n (stretch_end s n)) {r : Pending}
+  module _ (n : ℕ) {t : List ℕ} (p : t ≡ part s n (stretch_end s n)) {r : Option TableRef}
       (e : r ≡ fresh src (base + n) (direct is_part (kids (records (base + n) t)))) where
-    pub waiting-name : {a : ℕ} → a ≡ 0 → r ≡ pending_at src base s n a
+    pub waiting-name : r ≡ pending_at src base s (Some n) None
     unfolding pending_at fresh_at
-    waiting-name {a} z = rw (ne_eqb n 0 h, eq-eqb a 0 z, ← p) e
+    waiting-name = rw (← p) e
 
-    pub waiting-both : {a : ℕ} → (a ≡ 0 → ⊥) → {u : List ℕ} → u ≡ part s a (stretch_end s a) → {b : Bound} → b ≡ alias_in src (record_at u (base + a) 0) (kids (records (base + a) u))
-        → {x : Pending} → x ≡ aliased r b → x ≡ pending_at src base s n a
+    pub waiting-both : (a : ℕ) {u : List ℕ} → u ≡ part s a (stretch_end s a) → {b : Option NameBinding} → b ≡ alias_in src (record_at u (base + a) 0) (kids (records (base + a) u))
+        → {x : Option TableRef} → x ≡ aliased r b → x ≡ pending_at src base s (Some n) (Some a)
     unfolding pending_at fresh_at bound_at
-    waiting-both {a} z q f g = rw (ne_eqb n 0 h, ne_eqb a 0 z, ← p, ← q, ← e, ← f) g
+    waiting-both a q f g = rw (← p, ← q, ← e, ← f) g
 
-  pub waits-not : {n : ℕ} (a : ℕ) → n ≡ 0 → false ≡ pends (pending_at src base s n a)
-  waits-not a e = ap (λ (p : Pending). pends p) (waiting_none a e)
-
-  pub waits : {n : ℕ} (a : ℕ) → (n ≡ 0 → ⊥) → {t : List ℕ} → t ≡ part s n (stretch_end s n) → {x : Bool}
-      → x ≡ pends (fresh src (base + n) (direct is_part (kids (records (base + n) t)))) → x ≡ pends (pending_at src base s n a)
+  pub waits : (n : ℕ) (a : Option ℕ) {t : List ℕ} → t ≡ part s n (stretch_end s n) → {x : Bool}
+      → x ≡ pends (fresh src (base + n) (direct is_part (kids (records (base + n) t)))) → x ≡ pends (pending_at src base s (Some n) a)
   unfolding pending_at fresh_at
-  waits {n} a h p e = rw (ne_eqb n 0 h, ← p) (e ∙ go (eqb a 0) _ _)
-    where
-      go : (b : Bool) (r : Pending) (q : Bound) → pends r ≡ pends (cond b r (aliased r q))
-      go true r q = refl
-      go false r q = sym (alias-keeps r q)
+  waits n None p e = rw (← p) e
+  waits n (Some a) p e = rw (← p) (e ∙ sym (alias-keeps _ _))
 
-  pub bound-at : (i : ℕ) {t : List ℕ} {b : Bound} → t ≡ part s i (stretch_end s i) → b ≡ alias_in src (record_at t (base + i) 0) (kids (records (base + i) t)) → b ≡ bound_at src base s i
+  pub bound-at : (i : ℕ) {t : List ℕ} {b : Option NameBinding} → t ≡ part s i (stretch_end s i) → b ≡ alias_in src (record_at t (base + i) 0) (kids (records (base + i) t)) → b ≡ bound_at src base s i
   unfolding bound_at
   bound-at i p e = rw (← p) e
 
   -- ---- after an alias
-
-  pub after_first : {a i : ℕ} → a ≡ 0 → i ≡ alias_after src base s a i
-  unfolding alias_after
-  after_first {a} e = rw (eq-eqb a 0 e)
-
-  module _ {a : ℕ} (i : ℕ) (h : a ≡ 0 → ⊥) {b : Bound} (e : b ≡ bound_at src base s i) where
-    pub after-unnamed : b ≡ Unnamed → a ≡ alias_after src base s a i
+  module _ (a i : ℕ) {b : Option NameBinding} (e : b ≡ bound_at src base s i) where
+    pub after-unnamed : b ≡ None → a ≡ alias_after src base s (Some a) i
     unfolding alias_after newer
-    after-unnamed q = rw (ne_eqb a 0 h, ← e, q)
+    after-unnamed q = rw (← e, q)
 
-    pub after-named : {x : NameBinding} → b ≡ Named x → i ≡ alias_after src base s a i
+    pub after-named : {x : NameBinding} → b ≡ Some x → i ≡ alias_after src base s (Some a) i
     unfolding alias_after newer
-    after-named q = rw (ne_eqb a 0 h, ← e, q)
+    after-named q = rw (← e, q)
 
   -- THE LAW: by the alias that is set after it, the reference is what the alias makes of it
-  pub alias-set : (n a i : ℕ) → (i ≡ 0 → ⊥) → pending_at src base s n (alias_after src base s a i) ≡ aliased (pending_at src base s n a) (bound_at src base s i)
+  pub alias-set : (n a : Option ℕ) (i : ℕ) → pending_at src base s n (Some (alias_after src base s a i)) ≡ aliased (pending_at src base s n a) (bound_at src base s i)
   unfolding pending_at alias_after newer aliased
-  alias-set n a i h = go (eqb n 0) (eqb a 0) refl (bound_at src base s i) refl
+  alias-set None a i = refl
+  alias-set (Some n) None i = refl
+  alias-set (Some n) (Some a) i = go (bound_at src base s i) refl
     where
-      -- whether there is a name, whether an alias is set, and what the one at i binds
-      go : (x y : Bool) → eqb a 0 ≡ y → (b : Bound) → bound_at src base s i ≡ b
-          → cond x Nothing (cond (eqb (cond y i (newer b a i)) 0) (fresh_at src base s n) (aliased (fresh_at src base s n) (bound_at src base s (cond y i (newer b a i)))))
-          ≡ aliased (cond x Nothing (cond y (fresh_at src base s n) (aliased (fresh_at src base s n) (bound_at src base s a)))) b
-      go true y q b e = refl
-      go false true q b e = rw (ne_eqb i 0 h, e)
-      go false false q Unnamed e = rw q (unnamed-keeps (aliased (fresh_at src base s n) (bound_at src base s a)))
-      go false false q (Named z) e = rw (ne_eqb i 0 h, e) (later-sets (fresh_at src base s n) (bound_at src base s a) z)
+      go : (b : Option NameBinding) → bound_at src base s i ≡ b
+          → aliased (fresh_at src base s n) (bound_at src base s (newer b a i)) ≡ aliased (aliased (fresh_at src base s n) (bound_at src base s a)) b
+      go None e = unnamed-keeps (aliased (fresh_at src base s n) (bound_at src base s a))
+      go (Some z) e = rw e (later-sets (fresh_at src base s n) (bound_at src base s a) z)

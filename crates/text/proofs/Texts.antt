@@ -6,12 +6,16 @@ use mathlib.Core.Bool.{Bool, true, false, ◌&&◌}
 use mathlib.Core.List.{List, [], ◌∷◌}
 use native.Mathlib.Numerals.{add-one}
 use native.Mathlib.Omega.{arith}
-use native.Mathlib.Nat.{le_of_lt}
-use borrow.Author.Tests.{eq-eqb, ne_eqb}
+use borrow.Author.Tests.{eq-eqb, ne_eqb, lt-ltb, le-ltb, lt-leb, le-leb}
 use lib.Dec.{eqb}
+use Rattle.std.specs.List.{list_all, zip}
+use Rattle.std.specs.Char.{to_ascii_uppercase}
+use Prim.Native.Nat.{min}
+use mathlib.Core.Logic.{◌⊎◌, inl, inr}
+use mathlib.Core.Bool.{and-false}
 use lib.ListN.{length, get_or, take, drop, length-map, length-drop, drop_of_length-le}
 use lib.Seq.{drop-cons, take_all}
-use Rattle.lent.proofs.Cases.{both}
+use Rattle.lent.proofs.Cases.{both, lt-or-le}
 use Rattle.text.specs.Text.{text, upper, upper_word, same, says}
 
 -- words that are the same have one length
@@ -50,10 +54,35 @@ upper-at (x ∷ t) (suc i) h = upper-at t i (omega arith)
 
 -- ---- a text against an upper-case word
 
+-- the library's upper case of a byte is `upper`
+pub upper_is : (b : ℕ) → to_ascii_uppercase b ≡ upper b
+unfolding upper
+upper_is b = go (lt-or-le b 97) (lt-or-le b 123)
+  where
+    go : (b < 97) ⊎ (97 ≤ b) → (b < 123) ⊎ (123 ≤ b) → to_ascii_uppercase b ≡ upper b
+    go (inl h) q = simp (lt-ltb b 97 h, lt-leb 97 b h)
+    go (inr h) (inl g) = simp (le-ltb b 97 h, lt-ltb b 123 g, le-leb 97 b h, le-leb b 122 (omega arith))
+    go (inr h) (inr g) = simp (le-ltb b 97 h, le-ltb b 123 g, lt-leb b 122 (omega arith), and-false)
+
+-- a byte of the text, in upper case, is the word's
+abbrev pub agrees : ℕ × ℕ → Bool
+agrees p = eqb (to_ascii_uppercase p.0) p.1
+
 module _ (w t : List ℕ) where
   pub says-short : (length w ≡ length t → ⊥) → false ≡ says w t
   unfolding says
   says-short h = differ (upper_word t) w (λ e. h (sym e ∙ length-map t upper))
+
+  -- byte by byte, of words of one length
+  pub says-pairs : length w ≡ length t → list_all agrees (zip t w) ≡ says w t
+  unfolding says
+  says-pairs e = go w t e
+    where
+      go : (xs ys : List ℕ) → length xs ≡ length ys → list_all agrees (zip ys xs) ≡ same (upper_word ys) xs
+      go [] [] e = refl
+      go [] (y ∷ ys) e = absurd (omega arith)
+      go (x ∷ xs) [] e = absurd (omega arith)
+      go (x ∷ xs) (y ∷ ys) e = rw (go xs ys (omega arith), upper_is y)
 
   -- they agree up to byte i
   pub record Agree (i : ℕ) : Type 0 where
@@ -78,21 +107,17 @@ module _ (w t : List ℕ) where
 
 -- ---- the text between two places that need not lie in the source
 
-module _ (s : List ℕ) (start end : ℕ) where
-  pub text-back : end < start → [] ≡ text s start end
-  unfolding text
-  text-back h = let e : end - start ≡ 0 = omega arith in rw e
-
-  pub text-inside : take (end - start) (drop start s) ≡ text s start end
-  unfolding text
-  text-inside = refl
-
-  pub text-rest : start ≤ length s → length s < end → take (length s - start) (drop start s) ≡ text s start end
-  unfolding text
-  text-rest h g =
-      take_all (length s - start) (drop start s) (rw length-drop (omega arith))
-      ∙ sym (take_all (end - start) (drop start s) (rw length-drop (omega arith)))
-
-  pub text-past : length s < start → [] ≡ text s start end
-  unfolding text
-  text-past h = rw (drop_of_length-le s (le_of_lt h)) (sym (take_all (end - start) [] (omega arith)))
+-- it is that between the two where they are cut to the source
+pub text_cut : (s : List ℕ) (start end : ℕ) {from to : ℕ} → to ≡ min end (length s) → from ≡ min start to → take (to - from) (drop from s) ≡ text s start end
+unfolding text
+text_cut s start end {from} {to} e f = go (lt-or-le to start) (lt-or-le end (length s))
+  where
+    go : (to < start) ⊎ (start ≤ to) → (end < length s) ⊎ (length s ≤ end) → take (to - from) (drop from s) ≡ take (end - start) (drop start s)
+    go (inl h) (inl g) = let z : to - from ≡ 0 = omega arith in let w : end - start ≡ 0 = omega arith in rw (z, w)
+    go (inl h) (inr g) = let z : to - from ≡ 0 = omega arith in rw (z, drop_of_length-le s {i = start} (omega arith)) (sym (take_all (end - start) [] (omega arith)))
+    go (inr h) (inl g) = let z : from ≡ start = omega arith in let w : to ≡ end = omega arith in rw (z, w)
+    go (inr h) (inr g) =
+        let z : from ≡ start = omega arith in
+        rw z
+        (take_all (to - start) (drop start s) (rw length-drop (omega arith))
+        ∙ sym (take_all (end - start) (drop start s) (rw length-drop (omega arith))))

@@ -1,20 +1,16 @@
 -- The text of a token.
 -- Assumes nothing.
 use Prim.Native.Nat.{ℕ}
-use mathlib.Core.Path.{◌≡◌, refl}
-use mathlib.Core.Bool.{Bool, true, false, ◌&&◌}
+use mathlib.Core.Path.{◌≡◌, refl, ap}
+use mathlib.Core.Bool.{Bool, ◌&&◌}
 use mathlib.Core.List.{List, [], ◌∷◌}
-use native.Mathlib.Omega.{arith}
 use lib.Dec.{eqb}
-use lib.ListN.{length, get_or}
+use lib.Pointwise.{pointwise}
 use Rattle.text.specs.Text.{same}
 
--- a text of one byte
-pub one_byte : (t : List ℕ) (b : ℕ) → length t ≡ 1 → eqb (get_or t 0 0) b ≡ same t (b ∷ [])
-one_byte [] b h = absurd (omega arith)
-one_byte (x ∷ []) b h = go (eqb x b)
-  where
-    go : (z : Bool) → z ≡ (z && true)
-    go true = refl
-    go false = refl
-one_byte (x ∷ (y ∷ t)) b h = absurd (omega arith)
+-- `==` of two texts
+pub texts-equal : (t w : List ℕ) → pointwise eqb t w ≡ same t w
+texts-equal [] [] = refl
+texts-equal [] (y ∷ w) = refl
+texts-equal (x ∷ t) [] = refl
+texts-equal (x ∷ t) (y ∷ w) = ap (λ (b : Bool). eqb x y && b) (texts-equal t w)

@@ -1,18 +1,17 @@
 -- Document 01, Cursor, "Last token" and "Dotted".
 -- Definitions only.
-use Rattle.std.specs.Prelude.{ℕ, Bool, false, cond, not, ◌&&◌, ◌||◌, List, [], ◌∷◌, leb, ltb, eqb}
+use Rattle.std.specs.Prelude.{ℕ, Bool, false, cond, not, ◌&&◌, ◌||◌, List, [], ◌∷◌, leb, ltb, eqb, Option, None, Some}
+use Rattle.records.specs.declared.range.Range.{Range}
 use Rattle.records.specs.declared.record.Rec.{Rec}
 use Rattle.records.specs.Kinds.{whitespace, comment}
 use Rattle.forest.specs.Forest.{Forest}
 use Rattle.forest.specs.Tokens.{reached}
 use Rattle.text.specs.Text.{text, bytes_of, same, says}
-use Rattle.tokens.specs.declared.last_token.Name.{Name}
-use Rattle.tokens.specs.declared.last_token.Name.TheVariants.{Nameless, Named}
 use Rattle.tokens.specs.declared.last_token.LastTwo.{LastTwo}
 
 -- the range of a token, as a name
-abbrev pub named : Rec → Name
-named r = Named (record { start = r.start; end = r.end })
+abbrev pub named : Rec → Option Range
+named r = Some (record { start = r.start; end = r.end })
 
 -- a token of this kind and start counts: it starts at or before the offset, and is no Whitespace and no Comment
 abbrev pub counted : ℕ → ℕ → ℕ → Bool
@@ -27,7 +26,7 @@ abbrev pub reading : ℕ → Forest → List Rec
 reading o f = reached (λ r. counted o r.kind r.start) (λ r. entered o r.start r.end) f
 
 -- the last of a list of tokens, or the one that is given
-unfoldable pub last_or : Name → List Rec → Name
+unfoldable pub last_or : Option Range → List Rec → Option Range
 last_or best [] = best
 last_or best (r ∷ rs) = last_or (named r) rs
 
@@ -39,17 +38,17 @@ init (r ∷ (q ∷ rs)) = r ∷ init (q ∷ rs)
 
 -- the last token, and the one that precedes it in the reading
 unfoldable pub last_two : ℕ → Forest → LastTwo
-last_two o f = record { last = last_or Nameless (reading o f); before = last_or Nameless (init (reading o f)) }
+last_two o f = record { last = last_or None (reading o f); before = last_or None (init (reading o f)) }
 
 -- there is a token, and its text is w
-unfoldable pub is_text : List ℕ → List ℕ → Name → Bool
-is_text w src Nameless = false
-is_text w src (Named r) = same (text src r.start r.end) w
+unfoldable pub is_text : List ℕ → List ℕ → Option Range → Bool
+is_text w src None = false
+is_text w src (Some r) = same (text src r.start r.end) w
 
 -- there is a token, and its text is the upper-case word w in any ASCII case
-unfoldable pub is_word : List ℕ → List ℕ → Name → Bool
-is_word w src Nameless = false
-is_word w src (Named r) = says w (text src r.start r.end)
+unfoldable pub is_word : List ℕ → List ℕ → Option Range → Bool
+is_word w src None = false
+is_word w src (Some r) = says w (text src r.start r.end)
 
 -- `.` and `;`
 abbrev pub dot : List ℕ
@@ -59,8 +58,8 @@ abbrev pub semicolon : List ℕ
 semicolon = 59 ∷ []
 
 -- dotted: the last token's text is `.` and a token precedes it: the name is that token's
-unfoldable pub dotted : List ℕ → LastTwo → Name
-dotted src two = cond (is_text dot src two.last) two.before Nameless
+unfoldable pub dotted : List ℕ → LastTwo → Option Range
+dotted src two = cond (is_text dot src two.last) two.before None
 
 -- the last token is ON or USING
 unfoldable pub is_join_word : List ℕ → LastTwo → Bool

@@ -9,63 +9,53 @@ use records::range::Range;
 use records::record::{end_at, start_at};
 use text::text::{says, text_of};
 
-// A name's range, or none.
-#[derive(Clone, Copy)]
-pub enum Name {
-    Nameless,
-    Named(Range),
-}
-
-// The last token of a reading, and the one before it.
+// The last token of a reading and the one before it, each by its range, where there is one.
 #[derive(Clone, Copy)]
 pub struct LastTwo {
-    pub last: Name,
-    pub before: Name,
+    pub last: Option<Range>,
+    pub before: Option<Range>,
 }
 
-// The range of record i, as a name.
-pub fn token_at(s: &[u8], i: usize) -> Name
+// The range of record i.
+pub fn token_at(s: &[u8], i: usize) -> Range
     requires { i < count s.now }
     ensures { result ≡ name_at s.now i }
 {
-    Name::Named(Range {
+    Range {
         start: start_at(s, i),
         end: end_at(s, i),
-    })
+    }
 }
 
 // The text is this one byte.
 pub fn is_byte(t: &[u8], b: u8) -> bool
     ensures { result ≡ same t.now (b ∷ []) }
 {
-    if t.len() != 1 {
-        return false;
-    }
-    t[0] == b
+    t == [b].as_slice()
 }
 
 // There is a token, and its text is this one sign.
-fn is_sign(source: &[u8], token: Name, sign: u8) -> bool
+fn is_sign(source: &[u8], token: Option<Range>, sign: u8) -> bool
     ensures { result ≡ is_text (sign ∷ []) source.now token }
 {
     match token {
-        Name::Nameless => false,
-        Name::Named(range) => is_byte(text_of(source, range.start, range.end), sign),
+        None => false,
+        Some(range) => is_byte(text_of(source, range.start, range.end), sign),
     }
 }
 
 // There is a token, and its text is the upper-case word in any ASCII case.
-fn is_word(source: &[u8], token: Name, word: &[u8]) -> bool
+fn is_word(source: &[u8], token: Option<Range>, word: &[u8]) -> bool
     ensures { result ≡ is_word word.now source.now token }
 {
     match token {
-        Name::Nameless => false,
-        Name::Named(range) => says(word, text_of(source, range.start, range.end)),
+        None => false,
+        Some(range) => says(word, text_of(source, range.start, range.end)),
     }
 }
 
 // The name before a dot, where the last token is one.
-pub fn find_identifier_before_dot(source: &[u8], two: LastTwo) -> Name
+pub fn find_identifier_before_dot(source: &[u8], two: LastTwo) -> Option<Range>
     ensures { result ≡ dotted source.now two }
 {
     let last = two.last;
@@ -73,7 +63,7 @@ pub fn find_identifier_before_dot(source: &[u8], two: LastTwo) -> Name
     if is_sign(source, last, b'.') {
         before
     } else {
-        Name::Nameless
+        None
     }
 }
 

@@ -1,12 +1,11 @@
 // What a token or a node makes of a reading, for whatever is sought of it.
-ghost use Rattle.std.specs.Prelude.{◌≡◌, cond, ◌+◌, ◌≤◌, ◌<◌};
+ghost use Rattle.std.specs.Prelude.{◌≡◌, cond, ◌+◌, ◌≤◌, ◌<◌, unwrap_or, IfSome};
 ghost use Rattle.tokens.specs.Function.{argued};
 ghost use Rattle.tokens.specs.inner.Turns.{counts_for, enters_for, moved_to};
 
 use records::kinds::{
     AGGREGATE_FUNCTION, COMMA, COMMENT, FUNCTION_CALL, OPENING_ROUND, WHITESPACE,
 };
-use tokens::function::Arguments;
 use tokens::sought::{Sought, Swept};
 
 // Does a token of this kind and start count for what is sought?
@@ -30,46 +29,40 @@ pub fn enters(sought: Sought, offset: usize, kind: usize, start: usize, end: usi
     }
 }
 
-// What a token of this kind makes of the index.
-fn argue(a: Arguments, kind: usize) -> Arguments
-    requires { a.index < 1152921504606846976 }
-    ensures { (result ≡ argued a kind) × (result.index ≤ a.index + 1) }
+// What a token of this kind makes of the index, of which there is none before the first `(`.
+fn argue(index: Option<usize>, kind: usize) -> Option<usize>
+    requires { unwrap_or index 0 < 1152921504606846976 }
+    ensures { (result ≡ argued index kind) × (unwrap_or result 0 ≤ unwrap_or index 0 + 1) }
 {
     if kind == OPENING_ROUND {
-        return Arguments {
-            met: true,
-            index: 0,
-        };
+        return Some(0);
     }
-    if (kind == COMMA) & a.met {
-        return Arguments {
-            met: true,
-            index: a.index + 1,
-        };
+    if kind == COMMA {
+        return Some(index? + 1);
     }
-    a
+    index
 }
 
 // What token i of this kind and start makes of what was read, if it counts.
 pub fn turn(sought: Sought, offset: usize, w: Swept, kind: usize, start: usize, i: usize) -> Swept
-    requires { (w.arguments.index < 1152921504606846976) × (w.last ≤ i) × (w.before ≤ i) }
+    requires { (unwrap_or w.arguments 0 < 1152921504606846976) × IfSome w.last (λ n. n ≤ i)
+        × IfSome w.before (λ n. n ≤ i) }
     ensures { (result ≡ cond (counts_for sought offset kind start) (moved_to sought w kind i) w)
-        × (result.arguments.index ≤ w.arguments.index + 1) × (result.last ≤ i) × (result.before ≤ i) }
+        × (unwrap_or result.arguments 0 ≤ unwrap_or w.arguments 0 + 1)
+        × IfSome result.last (λ n. n ≤ i) × IfSome result.before (λ n. n ≤ i) }
 {
     if !counts(sought, offset, kind, start) {
         return w;
     }
-    let arguments = w.arguments;
     match sought {
         Sought::LastToken => Swept {
-            last: i,
+            last: Some(i),
             before: w.last,
-            arguments: arguments,
+            ..w
         },
         Sought::ArgumentIndex => Swept {
-            last: w.last,
-            before: w.before,
-            arguments: argue(arguments, kind),
+            arguments: argue(w.arguments, kind),
+            ..w
         },
     }
 }

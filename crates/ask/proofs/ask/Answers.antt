@@ -2,7 +2,7 @@ use mathlib.Core.Path.{◌∙◌}
 use Rattle.demands.specs.declared.Question.TheVariants.{Check, TokenClasses, OpenersLeft, BracketHint, WithNames, TableAliases, ColumnAliases, TableRefs, CursorContext, EnclosingStatement, CursorRoot, WithNamesAt, TableAliasesAt, ColumnAliasesAt, TableRefsAt, RecordsAbove, CursorContexts}
 use Rattle.demands.specs.Questions.{matter}
 use Rattle.demands.proofs.Numbers.{kept}
-use Rattle.demands.proofs.Promises.{number-told, check-packed, hint-packed, statement-packed, root-packed, plain-told, offset-told, rooted-told, numbered-told}
+use Rattle.demands.proofs.Promises.{number-told, check-packed, reply-packed, plain-told, offset-told, rooted-told, numbered-told}
 use Rattle.ask.proofs.ask.Goals as goal
 
 pub returns-in-Check : goal.returns-in-Check
@@ -23,7 +23,7 @@ returns-in-OpenersLeft c =
 pub returns-in-BracketHint : goal.returns-in-BracketHint
 unfolding matter
 returns-in-BracketHint c =
-    rw c.in-BracketHint.is (let w = kept BracketHint _ c.type_inv.table c.desk_bracket_hint.type_inv (number-told _ _ _ (c.desk_bracket_hint.ensures ∙ hint-packed _ _)) in record { demand1 = w.0; demand2 = w.1.0; numbers = w.1.1 })
+    rw c.in-BracketHint.is (let w = kept BracketHint _ c.type_inv.table c.desk_bracket_hint.type_inv (number-told _ _ _ (c.desk_bracket_hint.ensures ∙ reply-packed _ _ _)) in record { demand1 = w.0; demand2 = w.1.0; numbers = w.1.1 })
 
 pub returns-in-WithNames : goal.returns-in-WithNames
 unfolding matter
@@ -53,12 +53,12 @@ returns-in-CursorContext c =
 pub returns-in-EnclosingStatement : goal.returns-in-EnclosingStatement
 unfolding matter
 returns-in-EnclosingStatement c =
-    rw c.in-EnclosingStatement.is (let w = kept EnclosingStatement _ c.type_inv.table c.desk_enclosing_statement.type_inv (number-told _ _ _ (c.desk_enclosing_statement.ensures ∙ statement-packed _ _)) in record { demand1 = w.0; demand2 = w.1.0; numbers = w.1.1 })
+    rw c.in-EnclosingStatement.is (let w = kept EnclosingStatement _ c.type_inv.table c.desk_enclosing_statement.type_inv (number-told _ _ _ (c.desk_enclosing_statement.ensures ∙ reply-packed _ _ _)) in record { demand1 = w.0; demand2 = w.1.0; numbers = w.1.1 })
 
 pub returns-in-CursorRoot : goal.returns-in-CursorRoot
 unfolding matter
 returns-in-CursorRoot c =
-    rw c.in-CursorRoot.is (let w = kept CursorRoot _ c.type_inv.table c.desk_cursor_root.type_inv (number-told _ _ _ (c.desk_cursor_root.ensures ∙ root-packed _ _)) in record { demand1 = w.0; demand2 = w.1.0; numbers = w.1.1 })
+    rw c.in-CursorRoot.is (let w = kept CursorRoot _ c.type_inv.table c.desk_cursor_root.type_inv (number-told _ _ _ (c.desk_cursor_root.ensures ∙ reply-packed _ _ _)) in record { demand1 = w.0; demand2 = w.1.0; numbers = w.1.1 })
 
 pub returns-in-WithNamesAt : goal.returns-in-WithNamesAt
 unfolding matter

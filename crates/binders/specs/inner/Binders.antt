@@ -1,11 +1,10 @@
 -- How one walk serves WITH items and column aliases, by what binds the names.
 -- Definitions only. A reader of the lists needs none of them.
-use Rattle.std.specs.Prelude.{ℕ, Bool, ◌||◌, List, eqb}
+use Rattle.std.specs.Prelude.{ℕ, Bool, ◌||◌, List, eqb, Option}
 use Rattle.records.specs.declared.record.Rec.{Rec}
 use Rattle.records.specs.Kinds.{with_expression_item, column_list, expression_list, column_alias}
 use Rattle.forest.specs.Forest.{Forest}
 use Rattle.names.specs.declared.names.NameBinding.{NameBinding}
-use Rattle.names.specs.declared.names.Bound.{Bound}
 use Rattle.binders.specs.declared.binders.Binder.{Binder}
 use Rattle.binders.specs.declared.binders.Binder.TheVariants.{Item, Alias}
 use Rattle.names.specs.Names.{with_item, alias_in}
@@ -24,7 +23,7 @@ is_list Item k = eqb k column_list
 is_list Alias k = eqb k column_list || eqb k expression_list
 
 -- what it binds
-unfoldable pub binds : Binder → List ℕ → Rec → Forest → Bound
+unfoldable pub binds : Binder → List ℕ → Rec → Forest → Option NameBinding
 binds Item src r below = with_item src r below
 binds Alias src r below = alias_in src r below
 

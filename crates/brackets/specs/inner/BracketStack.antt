@@ -1,14 +1,12 @@
 -- How the code holds the bracket stack: an array of numbers, each an opener's record number and its shape. A reader of the answers needs
 -- none of this.
 -- Definitions only.
-use Rattle.std.specs.Prelude.{ℕ, zero, suc, ◌+◌, ◌-◌, ◌*◌, ◌/◌, ◌%◌, ◌≡◌, cond, List, [], ◌∷◌, eqb, get_or}
+use Rattle.std.specs.Prelude.{ℕ, zero, suc, ◌+◌, ◌-◌, ◌*◌, ◌/◌, ◌%◌, ◌≡◌, cond, List, [], ◌∷◌, eqb, get_or, Option, Some, None}
 use Rattle.records.specs.Kinds.{opening_round, closing_round}
 use Rattle.records.specs.Table.{count, kind_at, records}
 use Rattle.forest.specs.Forest.{Forest, nil, token, node, kids}
 use Rattle.brackets.specs.Brackets.{is_opener, is_closer, holding}
 use Rattle.text.specs.Text.{bytes_of}
-use Rattle.brackets.specs.declared.bracket_matching.Hint.{Hint}
-use Rattle.brackets.specs.declared.bracket_matching.Hint.TheVariants.{Opener, NoOpener}
 
 -- an opener of kind k and number i
 abbrev pub stacked : ℕ → ℕ → ℕ
@@ -47,13 +45,13 @@ abbrev pub unpacked : ℕ → ℕ
 unpacked o = o / 4
 
 -- the last opener of this shape, 0 to 2
-unfoldable pub last_by : ℕ → List ℕ → Hint
-last_by shape [] = NoOpener
-last_by shape (o ∷ stack) = let on : Hint = last_by shape stack in cond (eqb (o % 4) shape) (Opener (unpacked o)) on
+unfoldable pub last_by : ℕ → List ℕ → Option ℕ
+last_by shape [] = None
+last_by shape (o ∷ stack) = let on : (Option ℕ) = last_by shape stack in cond (eqb (o % 4) shape) (Some (unpacked o)) on
 
 -- the opener that a message speaks of
-unfoldable pub hint_by : List ℕ → List ℕ → Hint
+unfoldable pub hint_by : List ℕ → List ℕ → Option ℕ
 hint_by m stack =
     cond (holding (bytes_of "expected )") m) (last_by 0 stack)
     (cond (holding (bytes_of "expected ]") m) (last_by 1 stack)
-    (cond (holding (bytes_of "expected }") m) (last_by 2 stack) NoOpener))
+    (cond (holding (bytes_of "expected }") m) (last_by 2 stack) None))

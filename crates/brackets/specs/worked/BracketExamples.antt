@@ -1,11 +1,10 @@
 -- Brackets and hints, computed.
-use Rattle.std.specs.Prelude.{ℕ, ◌≡◌, refl, List, [], ◌∷◌, ◌++◌}
+use Rattle.std.specs.Prelude.{ℕ, ◌≡◌, refl, List, [], ◌∷◌, ◌++◌, Some, None}
 use Rattle.lent.specs.Numbers.{word}
 use Rattle.records.specs.Table.{record_at, run, from}
 use Rattle.forest.specs.Forest.{level, kids}
 use Rattle.text.specs.Text.{bytes_of}
 use Rattle.table.specs.worked.Worked.{rec}
-use Rattle.brackets.specs.declared.bracket_matching.Hint.TheVariants.{Opener, NoOpener}
 use Rattle.brackets.specs.Brackets.{fits, closed, stack_step, left, stack_left, openers_left, holding, last_opener, hint_of}
 
 -- ---- brackets: `( ] )` leaves none; `( [ )` leaves both openers; a wrong closer does not empty the stack
@@ -33,8 +32,8 @@ abbrev unclosed : List ℕ
 unclosed = page (137 ∷ 138 ∷ 137 ∷ 139 ∷ [])
 
 pub hints :
-    (hint_of (bytes_of "expected }, expected )") (stack_left unclosed) ≡ Opener 3) × (hint_of (bytes_of "was expected ] here") (stack_left unclosed) ≡ Opener 2)
-    × (hint_of (bytes_of "expected }") (stack_left unclosed) ≡ Opener 4) × (hint_of (bytes_of "expected )") (stack_left (page (138 ∷ []))) ≡ NoOpener)
-    × (hint_of (bytes_of "expected") (stack_left unclosed) ≡ NoOpener) × (hint_of [] (stack_left unclosed) ≡ NoOpener)
+    (hint_of (bytes_of "expected }, expected )") (stack_left unclosed) ≡ Some 3) × (hint_of (bytes_of "was expected ] here") (stack_left unclosed) ≡ Some 2)
+    × (hint_of (bytes_of "expected }") (stack_left unclosed) ≡ Some 4) × (hint_of (bytes_of "expected )") (stack_left (page (138 ∷ []))) ≡ None)
+    × (hint_of (bytes_of "expected") (stack_left unclosed) ≡ None) × (hint_of [] (stack_left unclosed) ≡ None)
 unfolding hint_of last_opener holding bytes_of left stack_step closed fits kids level from run record_at word
 hints = (refl, refl, refl, refl, refl, refl)

@@ -13,8 +13,8 @@ use Rattle.text.specs.Text.{text, bytes_of, upper, says}
 use Rattle.forest.specs.Tokens.{only, tokens_of}
 use Rattle.forest.specs.Descent.{path, path_of, along}
 use Rattle.keywords.specs.Keywords.{is_keyword, keywords}
-use Rattle.classes.specs.TokenClass.{between, judged, bareword, by_parent, class_of, number_of}
-use Rattle.class_list.specs.Classes.{entry_with, entry_of, classes}
+use Rattle.classes.specs.TokenClass.{between, judged, bareword, by_parent, class_of}
+use Rattle.class_list.specs.Classes.{entry_of, classes}
 use Rattle.brackets.specs.Brackets.{fits, closed, stack_step, left}
 use Rattle.names.specs.Names.{is_as, is_part, is_name, direct, binding, first_named, last_named}
 use Rattle.quotes.specs.Quotes.{unquoted, name_of}
@@ -152,5 +152,5 @@ expecting [] = []
 expecting (c ∷ cs) = c.prints ∷ expecting cs
 
 worked : printing cases ≡ expecting cases
-unfolding printing expecting cases ended glyph chain word record_at run from level kids extent stretch_end misplaced nearest last_end bad_span rules_from row_bytes list_bytes text bytes_of upper says only tokens_of path path_of along is_keyword keywords between judged bareword by_parent class_of number_of entry_of entry_with classes fits closed stack_step left is_as is_part is_name direct unquoted name_of binding first_named last_named node_gives collected collection entry bound_in fresh aliased hand_on list_alias table_reading own_with own_columns own_tables or_else first_find enclosing_at deepest_or on_path last_or init last_two is_text is_word dotted is_join_word bare_word_in or_name function_name argued arguments last_clause past_clause past_end trailing_in next_of is_deepest deepest_over table_reference joined function_argument column_or column path_rules ruled else_ask by_path starts_after last_rule given_or context_at range_of reference_number coded begun lines is_digit value all_digits is_hex is_source is_numbers faulty record_rules spelt pairs first_bytes fields_of digits decimal range fields ranges printed printed_list context_line statement_line answer_text question_verdict unless_refused replied_to
+unfolding printing expecting cases ended glyph chain word record_at run from level kids extent stretch_end misplaced nearest last_end bad_span rules_from row_bytes list_bytes text bytes_of upper says only tokens_of path path_of along is_keyword keywords between judged bareword by_parent class_of entry_of classes fits closed stack_step left is_as is_part is_name direct unquoted name_of binding first_named last_named node_gives collected collection entry bound_in fresh aliased hand_on list_alias table_reading own_with own_columns own_tables or_else first_find enclosing_at deepest_or on_path last_or init last_two is_text is_word dotted is_join_word bare_word_in or_name function_name argued arguments last_clause past_clause past_end trailing_in next_of is_deepest deepest_over table_reference joined function_argument column_or column path_rules ruled else_ask by_path starts_after last_rule given_or context_at range_of reference_number coded begun lines is_digit value all_digits is_hex is_source is_numbers faulty record_rules spelt pairs first_bytes fields_of digits decimal range fields ranges printed printed_list context_line statement_line answer_text question_verdict unless_refused replied_to
 worked = refl

@@ -1,22 +1,22 @@
 -- The rules over what the path gathered. A reader of the promise needs none of it.
 -- Definitions only.
-use Rattle.std.specs.Prelude.{ℕ, Bool, cond, List, eqb}
+use Rattle.std.specs.Prelude.{ℕ, Bool, List, Option, None, Some}
 use Rattle.records.specs.Table.{kind_at}
-use Rattle.forest.specs.Forest.{Forest, inside}
+use Rattle.forest.specs.Forest.{inside}
 use Rattle.path.specs.declared.gathered.Gathered.{Gathered}
+use Rattle.path.specs.declared.gathered.Ruling.{Ruling}
 use Rattle.contexts.specs.declared.context.CursorContext.{CursorContext}
-use Rattle.contexts.specs.declared.context.Answer.{Answer}
-use Rattle.contexts.specs.declared.context.Answer.TheVariants.{GoOn, Given}
 use Rattle.contexts.specs.inner.ByNumber.{trailing_from, given_by}
 use Rattle.cursor.specs.CursorContext.{last_rule, given_or}
 
--- what a rule gives by its number, 0 for none
-unfoldable pub told : List ℕ → ℕ → Bool → ℕ → ℕ → Forest → Answer
-told src o constrained n k f = cond (eqb n 0) GoOn (Given (given_by src o constrained n k f))
+-- what the rule that decides gives at its node, if there is one
+unfoldable pub told : List ℕ → List ℕ → ℕ → Bool → Option Ruling → Option CursorContext
+told src t o constrained None = None
+told src t o constrained (Some r) = Some (given_by src o constrained r.rule (kind_at t r.node) (inside t r.node))
 
 -- what the path's rules give
-unfoldable pub ruled_by : List ℕ → List ℕ → ℕ → Gathered → Answer
-ruled_by src t o g = told src o g.constrained g.ruling (kind_at t g.ruled) (inside t g.ruled)
+unfoldable pub ruled_by : List ℕ → List ℕ → ℕ → Gathered → Option CursorContext
+ruled_by src t o g = told src t o g.constrained g.ruling
 
 -- the rules in their order
 unfoldable pub analyzed : List ℕ → List ℕ → ℕ → Gathered → CursorContext

@@ -9,7 +9,7 @@ use Rattle.forest.specs.Descent.{path, path_of}
 use Rattle.table.specs.worked.Worked.{rec}
 use Rattle.statement.specs.Statement.{or_else, first_find, enclosing_at}
 use Rattle.path.specs.Path.{deepest_or}
-use Rattle.cursor_root.specs.Root.{statement_or, root_of, root_at}
+use Rattle.cursor_root.specs.Root.{root_of, root_at}
 
 abbrev nested : List ℕ
 nested =
@@ -28,5 +28,5 @@ roots : root_at nested 7
     ∷ root_at (rec file 0 0 9 ++ rec subquery_expression 1 0 5 ++ rec select_statement 1 5 9) 5
     ∷ []
     ≡ 4 ∷ 2 ∷ 1 ∷ 0 ∷ 0 ∷ 1 ∷ []
-unfolding word record_at run from level kids path path_of or_else first_find enclosing_at deepest_or statement_or root_of root_at
+unfolding word record_at run from level kids path path_of or_else first_find enclosing_at deepest_or root_of root_at
 roots = refl

@@ -1,27 +1,47 @@
--- Which path rule speaks of a node. A reader of the promises needs none of it: cursor/specs/PathRules.antt has the rules.
+-- Which path rule speaks of a node. A reader of the promises needs none of it: contexts/specs/PathRules.antt has the rules.
 -- Definitions only.
-use Rattle.std.specs.Prelude.{ℕ, Bool, true, false, cond, eqb, [], ◌∷◌}
+use Rattle.std.specs.Prelude.{ℕ, Bool, true, false, cond, eqb, [], ◌∷◌, Option, None, Some}
 use Rattle.records.specs.Kinds.{file, query_list, error, insert_statement, select_clause, from_clause, join_clause, prewhere_clause, where_clause, group_by_clause, having_clause, order_by_clause, settings_clause, setting_list, engine_clause, format_clause, insert_format_clause, table_identifier, column_definition, column_type_definition, column_codec, data_type, data_type_parameters, function_call, aggregate_function}
+use Rattle.path.specs.declared.rules.PathRule.{PathRule}
+use Rattle.path.specs.declared.rules.PathRule.TheVariants.{From, Join, Insert, Settings, Engine, Format, DataType, Definition, Codec, Function, Column, Start}
 use Rattle.path.specs.Path.{Next}
 use Rattle.path.specs.Path.{one_of, is_deepest, deepest_over}
 
--- the number of the rule that speaks of kind k, where it applies with n next below; 0 for none
-unfoldable pub rule_of : ℕ → Next → ℕ
+-- the rule that speaks of kind k, where it applies with n next below, or none
+unfoldable pub rule_of : ℕ → Next → Option PathRule
 rule_of k n =
-    cond (one_of (from_clause ∷ []) k) 2
-    (cond (one_of (join_clause ∷ []) k) 3
-    (cond (one_of (insert_statement ∷ []) k) (cond (deepest_over table_identifier n) 4 0)
-    (cond (one_of (settings_clause ∷ setting_list ∷ []) k) 5
-    (cond (one_of (engine_clause ∷ []) k) 6
-    (cond (one_of (format_clause ∷ insert_format_clause ∷ []) k) 7
-    (cond (one_of (column_type_definition ∷ data_type ∷ data_type_parameters ∷ []) k) 8
-    (cond (one_of (column_definition ∷ []) k) (cond (deepest_over error n) 9 0)
-    (cond (one_of (column_codec ∷ []) k) 10
-    (cond (one_of (function_call ∷ aggregate_function ∷ []) k) 11
-    (cond (one_of (select_clause ∷ prewhere_clause ∷ where_clause ∷ group_by_clause ∷ having_clause ∷ order_by_clause ∷ []) k) 12
-    (cond (one_of (file ∷ query_list ∷ []) k) (cond (is_deepest n) 13 0)
-    0)))))))))))
+    cond (one_of (from_clause ∷ []) k) (Some From)
+    (cond (one_of (join_clause ∷ []) k) (Some Join)
+    (cond (one_of (insert_statement ∷ []) k) (cond (deepest_over table_identifier n) (Some Insert) None)
+    (cond (one_of (settings_clause ∷ setting_list ∷ []) k) (Some Settings)
+    (cond (one_of (engine_clause ∷ []) k) (Some Engine)
+    (cond (one_of (format_clause ∷ insert_format_clause ∷ []) k) (Some Format)
+    (cond (one_of (column_type_definition ∷ data_type ∷ data_type_parameters ∷ []) k) (Some DataType)
+    (cond (one_of (column_definition ∷ []) k) (cond (deepest_over error n) (Some Definition) None)
+    (cond (one_of (column_codec ∷ []) k) (Some Codec)
+    (cond (one_of (function_call ∷ aggregate_function ∷ []) k) (Some Function)
+    (cond (one_of (select_clause ∷ prewhere_clause ∷ where_clause ∷ group_by_clause ∷ having_clause ∷ order_by_clause ∷ []) k) (Some Column)
+    (cond (one_of (file ∷ query_list ∷ []) k) (cond (is_deepest n) (Some Start) None)
+    None)))))))))))
 
 -- a rule that speaks of the deepest node applies also where a node of kind b is next below
-unfoldable pub applies_over : ℕ → ℕ → Bool
-applies_over r b = cond (eqb r 4) (eqb b table_identifier) (cond (eqb r 9) (eqb b error) (cond (eqb r 13) false true))
+unfoldable pub applies_over : PathRule → ℕ → Bool
+applies_over Insert b = eqb b table_identifier
+applies_over Definition b = eqb b error
+applies_over Start b = false
+applies_over r b = true
+
+-- a rule's number there: rule 1 is the trailing rule
+unfoldable pub rule_number : PathRule → ℕ
+rule_number From = 2
+rule_number Join = 3
+rule_number Insert = 4
+rule_number Settings = 5
+rule_number Engine = 6
+rule_number Format = 7
+rule_number DataType = 8
+rule_number Definition = 9
+rule_number Codec = 10
+rule_number Function = 11
+rule_number Column = 12
+rule_number Start = 13

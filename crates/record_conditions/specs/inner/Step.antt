@@ -1,6 +1,8 @@
 -- How the check goes through the records: what it carries along, and what it finds at a record.
 -- Definitions only. A reader of the conditions needs none of them.
-use Rattle.std.specs.Prelude.{ℕ, zero, suc, ◌+◌, Bool, cond, not, ◌&&◌, ◌||◌, List, ltb, eqb}
+use Rattle.lent.specs.declared.refusal.Condition.TheVariants.{UnlistedKind, Misplaced, TooDeep}
+use Rattle.lent.specs.declared.refusal.Condition.{Condition}
+use Rattle.std.specs.Prelude.{ℕ, zero, suc, ◌+◌, Bool, cond, not, ◌&&◌, ◌||◌, List, ltb, eqb, Option, Some, None}
 use Rattle.records.specs.declared.record.Rec.{Rec}
 use Rattle.records.specs.Kinds.{is_node, is_token}
 use Rattle.records.specs.Table.{kind_at, depth_at}
@@ -41,10 +43,10 @@ out_of_place b r =
 unfoldable pub off_source : ℕ → Known → Rec → Bool
 off_source n b r = is_token r.kind && (ltb r.end r.start || ltb n r.end || ltb r.start b.end)
 
--- the number of the first of 3, 4 and 5 that a record breaks; 0 where it breaks none
-unfoldable pub misfit_of : Known → Rec → ℕ
+-- the first of 3, 4 and 5 that a record breaks
+unfoldable pub misfit_of : Known → Rec → Option Condition
 misfit_of b r =
-    cond (strange r.kind) 3
-    (cond (out_of_place b r) 4
-    (cond (ltb most_depth r.depth) 5
-    0))
+    cond (strange r.kind) (Some UnlistedKind)
+    (cond (out_of_place b r) (Some Misplaced)
+    (cond (ltb most_depth r.depth) (Some TooDeep)
+    None))

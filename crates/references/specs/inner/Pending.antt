@@ -1,10 +1,9 @@
 -- Whether a reference is pending.
 -- Definitions only. A reader of the lists needs none of them.
-use Rattle.std.specs.Prelude.{Bool, true, false}
-use Rattle.references.specs.declared.pending.Pending.{Pending}
-use Rattle.references.specs.declared.pending.Pending.TheVariants.{Nothing, Held}
+use Rattle.references.specs.declared.pending.TableRef.{TableRef}
+use Rattle.std.specs.Prelude.{Bool, true, false, Option, Some, None}
 
 -- is a reference pending
-abbrev pub pends : Pending → Bool
-pends Nothing = false
-pends (Held t) = true
+abbrev pub pends : Option TableRef → Bool
+pends None = false
+pends (Some t) = true

@@ -1,17 +1,16 @@
 -- How many entries a reply tells of, and how much room every text has. A reader of what glance prints needs none of it.
 -- Definitions only.
-use Rattle.std.specs.Prelude.{ℕ, ◌+◌, ◌*◌, ◌/◌}
-use Rattle.lent.specs.declared.list.Listed.{Listed}
-use Rattle.lent.specs.declared.list.Listed.TheVariants.{Entries, Refused as Unlisted}
+use Rattle.lent.specs.declared.refusal.Refusal.{Refusal}
+use Rattle.std.specs.Prelude.{ℕ, ◌+◌, ◌*◌, ◌/◌, Ok, Err, Result}
 use Rattle.references.specs.References.{reference_bytes}
 use Rattle.lines.specs.Lines.{most_lines}
 use Rattle.print.specs.inner.Writing.{line_room}
 use Rattle.report.specs.Output.{reference_room}
 
 -- how many entries a reply tells of
-unfoldable pub entry_count : Listed → ℕ
-entry_count (Entries n) = n
-entry_count (Unlisted k d) = 0
+unfoldable pub entry_count : Result ℕ Refusal → ℕ
+entry_count (Ok n) = n
+entry_count (Err r) = 0
 
 -- how many references have room, and how many bytes every text has room in: a line for the context, the statement and the end, and one
 -- for each reference, token and opener

@@ -1,7 +1,6 @@
 -- Demand 3's words on one tree: two roots, a WITH, a JOIN inside FROM and a table expression. Of five table names the one below WITH is
 -- not reached, the one below JOIN is reached by JOIN and by FROM, and the one in the subquery stands under the subquery alone.
-use Rattle.std.specs.Prelude.{ℕ, ◌≡◌, refl, Bool, cond, List, [], ◌∷◌, ◌++◌, map, length}
-use Rattle.lent.specs.declared.verdict.Verdict.TheVariants.{Admitted}
+use Rattle.std.specs.Prelude.{ℕ, ◌≡◌, refl, Bool, cond, List, [], ◌∷◌, ◌++◌, map, length, Ok}
 use Rattle.records.specs.Kinds.{file, select_statement, with_clause, from_clause, join_clause, where_clause, subquery_expression, table_identifier, table_expression, bare_word}
 use Rattle.lent.specs.Numbers.{word}
 use Rattle.records.specs.Table.{record_at, run, from}
@@ -63,7 +62,7 @@ abbrev of : ℕ → ℕ → Of
 of i n = record { number = i; is = n }
 
 -- how often each name is reached: 4 is below WITH, 13 below JOIN
-counted : (verdict tree (length source) 0 ≡ Admitted)
+counted : (verdict tree (length source) 0 ≡ Ok tt)
     × (about is_table_name reaches (nodes_of tree) ≡ of 4 0 ∷ of 7 1 ∷ of 10 1 ∷ of 13 2 ∷ of 18 1 ∷ [])
 unfolding bytes_of verdict rules_from misplaced nearest bad_span last_end word record_at run from level kids places about is_table_name one_or_two is_part direct reach reaching up_to_root every
 counted = (refl, refl)

@@ -1,11 +1,10 @@
 -- Why `DeepestQuery` shuts out other roots, computed on the smallest trees. Offset 0 is in all of their nodes.
 -- A File with one SubqueryExpression: record 1 is a kind 30 node on the path, and record 0 is neither it nor below it.
 -- A SubqueryExpression in another: the outermost is record 0, and record 1 is on the path again.
-use Rattle.std.specs.Prelude.{ℕ, ◌≡◌, refl, true, false, List, [], ◌∷◌, ◌++◌}
+use Rattle.std.specs.Prelude.{ℕ, ◌≡◌, refl, true, false, List, [], ◌∷◌, ◌++◌, Ok}
 use Rattle.std.proofs.Common.{arith}
 use mathlib.Core.List.Memᴰ
 use Rattle.records.specs.declared.record.Rec.{Rec}
-use Rattle.lent.specs.declared.verdict.Verdict.TheVariants.{Admitted}
 use Rattle.records.specs.Kinds.{file, subquery_expression}
 use Rattle.lent.specs.Numbers.{word}
 use Rattle.records.specs.Table.{record_at, run, from}
@@ -17,7 +16,7 @@ use Rattle.table.specs.Rules.{verdict}
 use Rattle.table.specs.worked.Worked.{rec}
 use Rattle.statement.specs.Statement.{or_else, first_find, enclosing_at}
 use Rattle.path.specs.Path.{path_at, deepest_or}
-use Rattle.cursor_root.specs.Root.{statement_or, root_of, root_at}
+use Rattle.cursor_root.specs.Root.{root_of, root_at}
 use Rattle.roots.specs.Nearest.{DeepestQuery}
 
 -- a node of kind k with a subquery below it
@@ -25,9 +24,9 @@ abbrev over : ℕ → List ℕ
 over k = rec k 0 0 0 ++ rec subquery_expression 1 0 0
 
 -- both are admitted, and record 1 is the cursor's root
-roots : (verdict (over file) 0 0 ≡ Admitted) × (verdict (over subquery_expression) 0 0 ≡ Admitted)
+roots : (verdict (over file) 0 0 ≡ Ok tt) × (verdict (over subquery_expression) 0 0 ≡ Ok tt)
     × (root_at (over file) 0 ≡ 1) × (root_at (over subquery_expression) 0 ≡ 1)
-unfolding word record_at run from level kids path path_of verdict rules_from misplaced nearest bad_span last_end or_else first_find enclosing_at deepest_or statement_or root_of root_at
+unfolding word record_at run from level kids path path_of verdict rules_from misplaced nearest bad_span last_end or_else first_find enclosing_at deepest_or root_of root_at
 roots = (refl, refl, refl, refl)
 
 -- record 1 is on both paths

@@ -1,22 +1,22 @@
 -- Worked cases of the token classes and of brackets, computed.
-use Rattle.std.specs.Prelude.{ℕ, ◌≡◌, refl, true, false, List, [], ◌∷◌, ◌++◌}
+use Rattle.std.specs.Prelude.{ℕ, ◌≡◌, refl, true, false, List, [], ◌∷◌, ◌++◌, Some, None}
 use Rattle.lent.specs.Numbers.{word}
 use Rattle.records.specs.Table.{record_at, run, from}
 use Rattle.forest.specs.Forest.{level, kids}
 use Rattle.text.specs.Text.{bytes_of, upper, text}
 use Rattle.table.specs.worked.Worked.{rec}
-use Rattle.classes.specs.declared.token_class.TokenClass.TheVariants.{Keyword, Function, StringLiteral, Number, Comment, Operator, Variable, TypeName, Parameter, Property, Unclassed}
+use Rattle.classes.specs.declared.token_class.TokenClass.TheVariants.{Keyword, Function, StringLiteral, Number, Comment, Operator, Variable, TypeName, Parameter, Property}
 use Rattle.class_list.specs.declared.class_list.ClassedToken.{ClassedToken}
 use Rattle.keywords.specs.Keywords.{keywords, is_keyword}
-use Rattle.classes.specs.TokenClass.{between, judged, bareword, by_parent, class_of, number_of}
-use Rattle.class_list.specs.Classes.{entry_with, entry_of, classes, classes_of}
+use Rattle.classes.specs.TokenClass.{between, judged, bareword, by_parent, class_of}
+use Rattle.class_list.specs.Classes.{entry_of, classes, classes_of}
 
 -- ---- each class, by the token's kind
 
 pub by_kind :
-    (class_of [] 0 130 0 0 ≡ Comment) × (class_of [] 0 133 0 0 ≡ Number) × (class_of [] 0 134 0 0 ≡ StringLiteral) × (class_of [] 0 135 0 0 ≡ StringLiteral)
-    × (class_of [] 0 143 0 0 ≡ Operator) × (class_of [] 0 157 0 0 ≡ Operator) × (class_of [] 0 128 0 0 ≡ Unclassed) × (class_of [] 0 129 0 0 ≡ Unclassed)
-    × (class_of [] 0 136 0 0 ≡ Unclassed) × (class_of [] 0 142 0 0 ≡ Unclassed)
+    (class_of [] 0 130 0 0 ≡ Some Comment) × (class_of [] 0 133 0 0 ≡ Some Number) × (class_of [] 0 134 0 0 ≡ Some StringLiteral) × (class_of [] 0 135 0 0 ≡ Some StringLiteral)
+    × (class_of [] 0 143 0 0 ≡ Some Operator) × (class_of [] 0 157 0 0 ≡ Some Operator) × (class_of [] 0 128 0 0 ≡ None) × (class_of [] 0 129 0 0 ≡ None)
+    × (class_of [] 0 136 0 0 ≡ None) × (class_of [] 0 142 0 0 ≡ None)
 unfolding class_of between
 by_kind = (refl, refl, refl, refl, refl, refl, refl, refl, refl, refl)
 
@@ -24,14 +24,14 @@ by_kind = (refl, refl, refl, refl, refl, refl, refl, refl, refl, refl)
 
 pub words :
     -- 40 to 42 type, whatever the word
-    (judged true 40 ≡ TypeName) × (judged false 42 ≡ TypeName)
+    (judged true 40 ≡ Some TypeName) × (judged false 42 ≡ Some TypeName)
     -- 43 to 45, 33 to 35 and 50 to 54, 36 and 46 to 48: only where it is no keyword
-    × (judged false 43 ≡ Function) × (judged true 45 ≡ Keyword)
-    × (judged false 33 ≡ Property) × (judged false 35 ≡ Property) × (judged false 50 ≡ Property) × (judged false 54 ≡ Property) × (judged true 34 ≡ Keyword)
-    × (judged false 36 ≡ Variable) × (judged false 46 ≡ Variable) × (judged false 48 ≡ Variable) × (judged true 47 ≡ Keyword)
+    × (judged false 43 ≡ Some Function) × (judged true 45 ≡ Some Keyword)
+    × (judged false 33 ≡ Some Property) × (judged false 35 ≡ Some Property) × (judged false 50 ≡ Some Property) × (judged false 54 ≡ Some Property) × (judged true 34 ≡ Some Keyword)
+    × (judged false 36 ≡ Some Variable) × (judged false 46 ≡ Some Variable) × (judged false 48 ≡ Some Variable) × (judged true 47 ≡ Some Keyword)
     -- 49 parameter, whatever the word; a keyword elsewhere; 55 variable; else none
-    × (judged true 49 ≡ Parameter) × (judged false 49 ≡ Parameter) × (judged true 4 ≡ Keyword) × (judged true 55 ≡ Keyword) × (judged false 55 ≡ Variable)
-    × (judged false 15 ≡ Unclassed) × (judged false 37 ≡ Unclassed)
+    × (judged true 49 ≡ Some Parameter) × (judged false 49 ≡ Some Parameter) × (judged true 4 ≡ Some Keyword) × (judged true 55 ≡ Some Keyword) × (judged false 55 ≡ Some Variable)
+    × (judged false 15 ≡ None) × (judged false 37 ≡ None)
 unfolding judged between
 words = (refl, refl, refl, refl, refl, refl, refl, refl, refl, refl, refl, refl, refl, refl, refl, refl, refl, refl, refl, refl)
 
@@ -59,5 +59,5 @@ abbrev entry : ℕ → ℕ → ℕ → ClassedToken
 entry a b c = record { start = a; end = b; class = c }
 
 pub frame : classes_of source tree ≡ entry 0 6 0 ∷ entry 7 8 6 ∷ entry 10 14 0 ∷ entry 15 18 9 ∷ entry 19 20 9 ∷ []
-unfolding classes entry_of entry_with number_of class_of bareword judged by_parent between is_keyword keywords bytes_of upper text kids level from run record_at word
+unfolding classes entry_of class_of bareword judged by_parent between is_keyword keywords bytes_of upper text kids level from run record_at word
 frame = refl

@@ -1,22 +1,15 @@
 -- The search in one pass: what is carried along. A reader of the promises needs none of it.
 -- Definitions only.
-use Rattle.std.specs.Prelude.{ℕ, zero, suc, ◌+◌, Bool, cond, ◌&&◌, leb}
+use Rattle.std.specs.Prelude.{ℕ, ◌+◌, Bool, cond, ◌&&◌, leb, Option, Some}
 use Rattle.records.specs.declared.record.Rec.{Rec}
 use Rattle.records.specs.Ranges.{holds}
 use Rattle.forest.specs.inner.Scan.{Reading}
-use Rattle.statement.specs.declared.statement.Enclosing.{Enclosing}
-use Rattle.statement.specs.declared.statement.Enclosing.TheVariants.{Outside, Record}
 use Rattle.statement.specs.Statement.{is_statement}
 
--- the innermost statement so far, its number plus one, 0 for none; and how deep what stands in it is
+-- the innermost statement so far, if any; and how deep what stands in it is
 pub record Sofar : Type 0 where
-  pub best : ℕ
+  pub best : Option ℕ
   pub floor : ℕ
-
--- the record of a number plus one
-unfoldable pub given : ℕ → Enclosing
-given zero = Outside
-given (suc n) = Record n
 
 -- a node is gone into if it holds the offset and is not past the statement
 abbrev pub goes_into : ℕ → Sofar → Rec → Bool
@@ -24,7 +17,7 @@ goes_into o s r = leb s.floor r.depth && holds o r
 
 -- what a node makes of it
 abbrev pub met : ℕ → Sofar → Rec → Sofar
-met o s r = cond (goes_into o s r && is_statement r.kind) (record { best = r.index + 1; floor = r.depth + 1 }) s
+met o s r = cond (goes_into o s r && is_statement r.kind) (record { best = Some r.index; floor = r.depth + 1 }) s
 
 -- the pass
 unfoldable pub passing : ℕ → Reading Sofar

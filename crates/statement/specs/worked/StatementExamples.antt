@@ -1,5 +1,5 @@
 -- Worked cases of the enclosing statement, computed.
-use Rattle.std.specs.Prelude.{ℕ, ◌≡◌, refl, List, [], ◌∷◌, ◌++◌, map}
+use Rattle.std.specs.Prelude.{ℕ, ◌≡◌, refl, List, [], ◌∷◌, ◌++◌, map, Some, None}
 use Rattle.records.specs.declared.record.Rec.{Rec}
 use Rattle.records.specs.Kinds.{file, select_statement, insert_statement, describe_statement, with_clause, subquery_expression, bare_word}
 use Rattle.lent.specs.Numbers.{word}
@@ -8,7 +8,6 @@ use Rattle.forest.specs.Forest.{level, kids}
 use Rattle.forest.specs.Descent.{path, path_of}
 use Rattle.records.specs.Ranges.{holds}
 use Rattle.table.specs.worked.Worked.{rec}
-use Rattle.statement.specs.declared.statement.Enclosing.TheVariants.{Outside, Record}
 use Rattle.statement.specs.Statement.{or_else, first_find, enclosing_at}
 
 -- a statement 0..20 with a subquery 5..9 that has one of its own, an empty statement, and a second statement 9..12 in a clause
@@ -33,7 +32,7 @@ finds : enclosing_at nested 7
     ∷ enclosing_at (rec file 0 4294967295 0 ++ rec select_statement 1 0 9) 5
     ∷ enclosing_at (rec file 0 0 9 ++ rec with_clause 1 0 5 ++ rec select_statement 1 5 9) 5
     ∷ []
-    ≡ Record 3 ∷ Record 3 ∷ Record 7 ∷ Record 1 ∷ Outside ∷ Outside ∷ Outside ∷ Record 2 ∷ []
+    ≡ Some 3 ∷ Some 3 ∷ Some 7 ∷ Some 1 ∷ None ∷ None ∷ None ∷ Some 2 ∷ []
 unfolding word record_at run from level kids or_else first_find enclosing_at
 finds = refl
 
@@ -48,7 +47,7 @@ parted =
     ++ rec select_statement 3 5 9
 
 -- at 5 the path goes into the clause and ends in its subquery; the search goes on, and gives a statement off the path
-off-path : (map (λ (r : Rec). r.index) (path_of (holds 5) (records 0 parted)) ≡ 0 ∷ 1 ∷ 2 ∷ 3 ∷ []) × (enclosing_at parted 5 ≡ Record 5)
+off-path : (map (λ (r : Rec). r.index) (path_of (holds 5) (records 0 parted)) ≡ 0 ∷ 1 ∷ 2 ∷ 3 ∷ []) × (enclosing_at parted 5 ≡ Some 5)
 unfolding word record_at run from level kids path path_of or_else first_find enclosing_at
 off-path = (refl, refl)
 
@@ -57,6 +56,6 @@ abbrev beside : List ℕ
 beside = rec file 0 0 12 ++ rec select_statement 1 0 6 ++ rec insert_statement 1 6 12
 
 -- at 6 both hold the offset, and the first is taken; from 7 on it is the second
-first-of-two : enclosing_at beside 5 ∷ enclosing_at beside 6 ∷ enclosing_at beside 7 ∷ [] ≡ Record 1 ∷ Record 1 ∷ Record 2 ∷ []
+first-of-two : enclosing_at beside 5 ∷ enclosing_at beside 6 ∷ enclosing_at beside 7 ∷ [] ≡ Some 1 ∷ Some 1 ∷ Some 2 ∷ []
 unfolding word record_at run from level kids or_else first_find enclosing_at
 first-of-two = refl

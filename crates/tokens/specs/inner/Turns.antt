@@ -1,17 +1,13 @@
 -- What a turn of a loop over tokens does. A reader of the promises needs none of it.
 -- Definitions only.
-use Rattle.std.specs.Prelude.{ℕ, Bool, false, cond, List, eqb, ltb}
+use Rattle.std.specs.Prelude.{ℕ, Bool, cond, List, eqb, ltb, Option, None, Some, option_map}
+use Rattle.records.specs.declared.range.Range.{Range}
 use Rattle.records.specs.Table.{kind_at, start_at, end_at, from}
 use Rattle.forest.specs.Forest.{Forest, kids}
 use Rattle.forest.specs.Tokens.{reached}
 use Rattle.forest.specs.Descent.{along}
 use Rattle.records.specs.Kinds.{opening_round, bare_word, identifier}
-use Rattle.tokens.specs.declared.last_token.Name.{Name}
-use Rattle.tokens.specs.declared.last_token.Name.TheVariants.{Nameless, Named}
 use Rattle.tokens.specs.declared.last_token.LastTwo.{LastTwo}
-use Rattle.tokens.specs.declared.function.Arguments.{Arguments}
-use Rattle.tokens.specs.declared.function.Naming.{Naming}
-use Rattle.tokens.specs.declared.function.Naming.TheVariants.{Open, Is}
 use Rattle.tokens.specs.declared.sought.Sought.{Sought}
 use Rattle.tokens.specs.declared.sought.Sought.TheVariants.{LastToken, ArgumentIndex}
 use Rattle.tokens.specs.declared.sought.Swept.{Swept}
@@ -22,7 +18,7 @@ use Rattle.tokens.specs.Function.{bare_word_in, opens, argued}
 
 -- one token on
 abbrev pub pushed : LastTwo → ℕ → ℕ → LastTwo
-pushed two s e = record { last = Named (record { start = s; end = e }); before = two.last }
+pushed two s e = record { last = Some (record { start = s; end = e }); before = two.last }
 
 -- a token of kind k and start s counts for what is sought
 unfoldable pub counts_for : Sought → ℕ → ℕ → ℕ → Bool
@@ -37,7 +33,7 @@ enters_for ArgumentIndex o k s e = opens k s e
 -- what is found in a reading: the last two tokens, and the argument's index
 pub record Findings : Type 0 where
   pub two : LastTwo
-  pub arguments : Arguments
+  pub arguments : Option ℕ
 
 -- what a token that counts makes of what was found
 unfoldable pub turned : Sought → Findings → ℕ → ℕ → ℕ → Findings
@@ -46,7 +42,7 @@ turned ArgumentIndex f k s e = record { two = f.two; arguments = argued f.argume
 
 -- nothing is found yet
 abbrev pub nothing_found : Findings
-nothing_found = record { two = record { last = Nameless; before = Nameless }; arguments = record { met = false; index = 0 } }
+nothing_found = record { two = record { last = None; before = None }; arguments = None }
 
 -- what is found in the tokens that count and are reached
 unfoldable pub swept : Sought → ℕ → Forest → Findings
@@ -54,15 +50,15 @@ swept x o f =
     along (λ w r. turned x w r.kind r.start r.end) nothing_found
     (reached (λ r. counts_for x o r.kind r.start) (λ r. enters_for x o r.kind r.start r.end) f)
 
--- ---- what the loop carries: a token by its record's number, 0 for none
+-- ---- what the loop carries: a token by its record's number
 
--- the range of record i as a name
-unfoldable pub name_at : List ℕ → ℕ → Name
-name_at s i = Named (record { start = start_at s i; end = end_at s i })
+-- the range of record i
+unfoldable pub name_at : List ℕ → ℕ → Range
+name_at s i = record { start = start_at s i; end = end_at s i }
 
--- the token of that number
-unfoldable pub token_of : List ℕ → ℕ → Name
-token_of s i = cond (eqb i 0) Nameless (name_at s i)
+-- the token of that number, if there is one
+unfoldable pub token_of : List ℕ → Option ℕ → Option Range
+token_of s i = option_map (name_at s) i
 
 -- what the loop's numbers stand for
 unfoldable pub meant : List ℕ → Swept → Findings
@@ -70,24 +66,24 @@ meant s w = record { two = record { last = token_of s w.last; before = token_of 
 
 -- what token i of kind k, which counts, makes of them
 unfoldable pub moved_to : Sought → Swept → ℕ → ℕ → Swept
-moved_to LastToken w k i = record { last = i; before = w.last; arguments = w.arguments }
+moved_to LastToken w k i = record { last = Some i; before = w.last; arguments = w.arguments }
 moved_to ArgumentIndex w k i = record { last = w.last; before = w.before; arguments = argued w.arguments k }
 
 -- ---- the function's name
 
 -- a name that is there is the function's
-unfoldable pub naming : Name → Naming
-naming Nameless = Open
-naming (Named r) = Is (Named r)
+unfoldable pub naming : Option Range → Option (Option Range)
+naming None = None
+naming (Some r) = Some (Some r)
 
 -- what a child of kind k, with this range and these children, says of the function's name
-unfoldable pub naming_of : ℕ → Name → Forest → Naming
+unfoldable pub naming_of : ℕ → Range → Forest → Option (Option Range)
 naming_of k name below =
-    cond (eqb k bare_word) (Is name)
-    (cond (eqb k opening_round) (Is Nameless)
+    cond (eqb k bare_word) (Some (Some name))
+    (cond (eqb k opening_round) (Some None)
     (cond (eqb k identifier) (naming (bare_word_in below))
-    Open))
+    None))
 
 -- what record i says of it
-abbrev pub naming_at : List ℕ → ℕ → ℕ → Naming
+abbrev pub naming_at : List ℕ → ℕ → ℕ → Option (Option Range)
 naming_at s base i = naming_of (kind_at s i) (name_at s i) (kids (from s base i))

@@ -16,18 +16,15 @@ loop-i-init t c =
 pub loop-i-preserved-then-is_binder : goal.loop-i-preserved-then-is_binder
 loop-i-preserved-then-is_binder t c = (
   omega arith,
-  node-on (writing binding_row (names _ _) _ _) (names-pass _ _ _ _) c.loop-i.invariant.1 (omega arith) c.stretch_of-part.ensures.0 (omega arith) c.node_from-i-then-is_binder.ensures
-      (λ f. writing-turn binding_row (names _ _) (names _ _) _ _ (names-bind _ _ _ _ _ f c.kind_at-kind.ensures.0 (omega arith) c.stretch_of-part.ensures.0 c.is_binder.ensures c.if-is_binder.true refl) c.put_name-next.ensures.0),
+  node-on (writing binding_row (names _ _) _ _) (names-pass _ _ _ _) c.loop-i.invariant.1 (omega arith) c.stretch_of-child.ensures.0 (omega arith) c.node_from-i-then-is_binder.ensures
+      (λ f. writing-turn binding_row (names _ _) (names _ _) _ _ (names-bind _ _ _ _ _ f c.kind_at-kind.ensures.0 (omega arith) c.stretch_of-child.ensures.0 c.is_binder.ensures c.if-is_binder.true refl) (rw c.stretch_of-child.ensures.1 at c.put_name-next.ensures.0)),
 )
-
-pub collect_bound-next-requires : goal.collect_bound-next-requires
-collect_bound-next-requires t c = (omega arith, (omega arith, omega arith, omega arith))
 
 pub loop-i-preserved-then-is_list : goal.loop-i-preserved-then-is_list
 loop-i-preserved-then-is_list t c = (
   omega arith,
-  node-on (writing binding_row (names _ _) _ _) (names-pass _ _ _ _) c.loop-i.invariant.1 (omega arith) c.stretch_of-part-then-is_list.ensures.0 (omega arith) c.node_from-i-then-is_list.ensures
-      (λ f. writing-turn binding_row (names _ _) (names _ _) _ _ (names-list _ _ _ _ _ f c.kind_at-kind.ensures.0 _ c.is_binder.ensures c.if-is_binder.false c.is_list.ensures c.if-is_list.true) c.collect_bound-next.ensures.0),
+  node-on (writing binding_row (names _ _) _ _) (names-pass _ _ _ _) c.loop-i.invariant.1 (omega arith) c.stretch_of-child-then-is_list.ensures.0 (omega arith) c.node_from-i-then-is_list.ensures
+      (λ f. writing-turn binding_row (names _ _) (names _ _) _ _ (names-list _ _ _ _ _ f c.kind_at-kind.ensures.0 _ c.is_binder.ensures c.if-is_binder.false c.is_list.ensures c.if-is_list.true) (rw c.stretch_of-child-then-is_list.ensures.1 at c.collect_bound-next.ensures.0)),
 )
 
 pub loop-i-preserved : goal.loop-i-preserved

@@ -1,18 +1,10 @@
-use mathlib.Core.Path.{◌≡◌}
 use native.Mathlib.Omega.{arith}
 use Rattle.brackets.proofs.OneByOne.{over-next, over_none}
 use Rattle.brackets.proofs.bracket_matching.collect_brackets.Goals as goal
 
 pub loop-i-init : goal.loop-i-init
-loop-i-init c = (omega arith, over_none _ _ _)
+loop-i-init c = (over_none _ _ _, omega arith)
 
 pub loop-i-preserved : goal.loop-i-preserved
 loop-i-preserved c =
-    (omega arith, rw (over-next _ _ _ _, ← c.loop-i.invariant.1, ← c.kind_at.ensures.0) c.stack_step-top.ensures.0)
-
-pub shape_of-stack : goal.shape_of-stack
-shape_of-stack c = c.loop-i.invariant.0.2
-
-pub returns : goal.returns
-returns c =
-    let e : c.loop-i.i ≡ c.count_of-m.result = omega arith in (rw (e, c.count_of-m.ensures) at c.loop-i.invariant.1, omega arith)
+    (rw (over-next _ _ _ _, ← c.loop-i.invariant.0, ← c.kind_at.ensures.0) c.step.ensures.0, omega (arith, c.step.ensures.1))

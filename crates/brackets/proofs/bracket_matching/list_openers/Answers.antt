@@ -1,9 +1,13 @@
 use Rattle.brackets.proofs.BracketLaws.{openers-short, openers-full}
+use mathlib.Core.Path.{ap, ◌∙◌}
+use lib.ListN.{length, length-reverse}
 use native.Mathlib.Omega.{arith}
 use Rattle.brackets.proofs.bracket_matching.list_openers.Goals as goal
 
 pub returns-then-out-n : goal.returns-then-out-n
-returns-then-out-n c = openers-short _ _ _ _ c.stack_left-n.ensures.0 (omega arith) (omega arith)
+returns-then-out-n c =
+    rw c.refused.ensures (openers-short _ _ c.stack_left.ensures.0 (ap length c.openers-n.ensures.0 ∙ length-reverse c.stack_left.new.stack) (omega arith))
 
 pub returns : goal.returns
-returns c = openers-full _ _ _ _ c.stack_left-n.ensures.0 (omega arith) c.put_openers.ensures (omega arith)
+returns c =
+    openers-full _ _ c.stack_left.ensures.0 (ap length c.openers-n.ensures.0 ∙ length-reverse c.stack_left.new.stack) c.put_openers.ensures (omega arith)

@@ -7,8 +7,7 @@ use Rattle.class_list.proofs.class_list.list_classes.Goals as goal
 use Rattle.class_list.proofs.class_list.list_classes.Goals.{then-room-count_of+else-room-needed, else-room-count_of}
 
 pub returns-then-room-needed : goal.returns-then-room-needed
-returns-then-room-needed c =
-    list-short class_row 12 (λ e. refl) (omega arith) [] _ _ refl c.class_bytes-needed.ensures.0 c.if-room-needed.true
+returns-then-room-needed c = rw c.refused.ensures (list-short class_row 12 (λ e. refl) (omega arith) [] _ _ refl c.class_bytes-needed.ensures.0 c.if-room-needed.true)
 
 pub returns : goal.returns
 returns c =

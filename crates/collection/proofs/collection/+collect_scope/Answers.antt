@@ -6,7 +6,6 @@ use Rattle.lent.proofs.Writes.{written_none, written_then}
 use Rattle.forest.proofs.Writing.{writing, writing-turn, writing-end}
 use Rattle.forest.proofs.Walks.{walk_end}
 use Rattle.forest.proofs.NodeWalks.{node-start, node-on}
-use Prim.Native.Nat.{◌-◌}
 use native.Mathlib.Omega.{arith}
 use Rattle.collection.proofs.collection.+collect_scope.Goals as goal
 
@@ -18,26 +17,17 @@ pub loop-i-init : goal.loop-i-init
 loop-i-init t c =
     (omega arith, node-start (writing as_row (collected _) _ _) (tokens-pass as_row _ _ _) _ _ (omega arith) c.node_from-i.ensures)
 
-pub collect_scope-next-requires : goal.collect_scope-next-requires
-collect_scope-next-requires t c = (omega arith, (omega arith, omega arith, omega arith))
-
-pub loop-i-smaller-then-hands_on : goal.loop-i-smaller-then-hands_on
-loop-i-smaller-then-hands_on t c = omega (arith, c.node_from-i-then-hands_on.ensures.on)
-
 pub loop-i-preserved-then-hands_on : goal.loop-i-preserved-then-hands_on
 loop-i-preserved-then-hands_on t c =
-    let p = c.stretch_of-part.ensures.0 in (
+    let p = c.stretch_of-child.ensures.0 in (
       omega arith,
       node-on (writing as_row (collected _) _ _) (tokens-pass as_row _ _ _) c.loop-i.invariant.1 (omega arith) p (omega arith) c.node_from-i-then-hands_on.ensures
-          (λ f. writing-turn as_row (collected _) (collected _) _ _ (collected-node _ _ _ _ f _ (omega arith) p (hands-visited _ _ 0 _ (omega arith) p (omega arith) c.hands_on.ensures c.if-hands_on.true)) c.collect_scope-next.ensures.0),
+          (λ f. writing-turn as_row (collected _) (collected _) _ _ (collected-node _ _ _ _ f _ (omega arith) p (hands-visited _ _ 0 _ (omega arith) p (omega arith) c.hands_on.ensures c.if-hands_on.true)) (rw c.stretch_of-child.ensures.1 at c.collect_scope-next.ensures.0)),
     )
-
-pub loop-i-smaller : goal.loop-i-smaller
-loop-i-smaller t c = omega (arith, c.node_from-i-else-hands_on.ensures.on)
 
 pub loop-i-preserved : goal.loop-i-preserved
 loop-i-preserved t c =
-    let p = c.stretch_of-part.ensures.0 in (
+    let p = c.stretch_of-child.ensures.0 in (
       omega arith,
       node-on (writing as_row (collected _) _ _) (tokens-pass as_row _ _ _) c.loop-i.invariant.1 (omega arith) p (omega arith) c.node_from-i-else-hands_on.ensures
           (λ f. writing-turn as_row (collected _) (collected _) _ _ (quiet-node _ _ _ _ (omega arith) p (omega arith) c.hands_on.ensures _ f c.if-hands_on.false) (written_none as_row _ _)),

@@ -7,8 +7,7 @@ use Rattle.context_entry.proofs.context_entry.list_context.Goals as goal
 
 pub returns-then-out-lt-CONTEXT_BYTES : goal.returns-then-out-lt-CONTEXT_BYTES
 unfolding context_row
-returns-then-out-lt-CONTEXT_BYTES c =
-    list-short context_row 16 (λ e. refl) (omega arith) [] _ _ refl {m = 16} (sym (length-wide context_row 16 (λ e. refl) (_ ∷ []))) (omega arith)
+returns-then-out-lt-CONTEXT_BYTES c = rw c.refused.ensures (list-short context_row 16 (λ e. refl) (omega arith) [] _ _ refl {m = 16} (sym (length-wide context_row 16 (λ e. refl) (_ ∷ []))) (omega arith))
 
 pub returns : goal.returns
 unfolding context_row

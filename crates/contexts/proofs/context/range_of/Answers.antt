@@ -1,10 +1,6 @@
 use Rattle.contexts.specs.Context.{range_of}
 use Rattle.contexts.proofs.context.range_of.Goals as goal
 
-pub returns-in-Named : goal.returns-in-Named
+pub returns : goal.returns
 unfolding range_of
-returns-in-Named c = rw c.in-Named.is
-
-pub returns-in-Nameless : goal.returns-in-Nameless
-unfolding range_of
-returns-in-Nameless c = rw c.in-Nameless.is
+returns c = rw (c.unwrap_or.ensures, c.no_range.ensures)

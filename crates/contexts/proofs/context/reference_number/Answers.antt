@@ -1,10 +1,10 @@
 use Rattle.contexts.specs.Context.{reference_number}
 use Rattle.contexts.proofs.context.reference_number.Goals as goal
 
-pub returns-in-Named : goal.returns-in-Named
+pub returns-in-Some : goal.returns-in-Some
 unfolding reference_number
-returns-in-Named c = rw c.in-Named.is
+returns-in-Some c = rw c.in-Some.is
 
-pub returns-in-Nameless : goal.returns-in-Nameless
+pub returns-in-None : goal.returns-in-None
 unfolding reference_number
-returns-in-Nameless c = rw c.in-Nameless.is
+returns-in-None c = rw c.in-None.is

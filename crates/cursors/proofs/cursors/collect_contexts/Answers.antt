@@ -2,7 +2,6 @@ use Rattle.cursors.proofs.CursorsLaws.{taking-start, taking_step, taking-end}
 use Rattle.starts.proofs.BegunLaws.{begun_first}
 use Rattle.contexts.specs.Context.{coded}
 use mathlib.Core.Path.{refl, ap, ◌∙◌}
-use Prim.Native.Nat.{◌-◌}
 use native.Mathlib.Omega.{arith}
 use Rattle.cursors.proofs.cursors.collect_contexts.Goals as goal
 
@@ -23,9 +22,6 @@ slice_bounds-put_entry-end c = refl
 pub loop-i-preserved : goal.loop-i-preserved
 loop-i-preserved c =
     (omega (arith, c.put_entry-next.ensures.1), c.loop-i.invariant.1, taking_step _ _ _ c.loop-i.invariant.2 (omega arith) c.word_at-offset.ensures.0 (c.code_of-k.ensures ∙ ap coded c.context_from.ensures) c.put_entry-next.ensures.0 c.put_entry-next.ensures.1)
-
-pub shape_of-out : goal.shape_of-out
-shape_of-out c = c.loop-i.invariant.0.2
 
 pub returns : goal.returns
 returns c = taking-end _ _ _ c.loop-i.invariant.2 (omega arith)

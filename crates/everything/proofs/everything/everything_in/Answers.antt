@@ -1,3 +1,4 @@
+use Rattle.std.proofs.lemmas.Result.{err_from_is_err_and}
 use Rattle.everything.proofs.EverythingLaws.{everything-short, everything-given}
 use Rattle.cursor_root.proofs.RootLaws.{root-shallow}
 use Rattle.forest.proofs.Above.{admitted-climbs}
@@ -17,10 +18,10 @@ pub put_lists-requires : goal.put_lists-requires
 put_lists-requires c =
     (root-shallow _ _ _ refl (sym c.requires) c.root_at-root.ensures, admitted-climbs _ _ refl (sym c.requires))
 
-pub returns-in-Refused : goal.returns-in-Refused
-returns-in-Refused c =
-    everything-short _ _ _ _ (rules-passed _ _ _ c.requires refl) (rw c.root_at-root.ensures at c.counts_in-c.ensures) c.room_for.ensures c.in-Refused.is
+pub returns-in_err-room_for : goal.returns-in_err-room_for
+returns-in_err-room_for c =
+    let p = err_from_is_err_and c.from_residual.result c.from_residual.ensures.1 in rw (p.1, p.2) (everything-short _ _ _ _ (rules-passed _ _ _ c.requires refl) (rw c.root_at-root.ensures at c.counts_in-c.ensures) c.room_for.ensures c.in_err-room_for.was)
 
-pub returns-in-Admitted : goal.returns-in-Admitted
-returns-in-Admitted c =
-    let r = c.root_at-root.ensures in everything-given _ _ _ _ (rules-passed _ _ _ c.requires refl) (rw r at c.counts_in-c.ensures) c.room_for.ensures c.in-Admitted.is (rw r at c.put_everything.ensures) (rw r at c.put_lists.ensures.0) (rw r at c.put_lists.ensures.1) (rw r at c.put_lists.ensures.2) (rw r at c.put_lists.ensures.3)
+pub returns : goal.returns
+returns c =
+    let r = c.root_at-root.ensures in everything-given _ _ _ _ (rules-passed _ _ _ c.requires refl) (rw r at c.counts_in-c.ensures) c.room_for.ensures c.in_ok-room_for.was (rw r at c.put_everything.ensures) (rw r at c.put_lists.ensures.0) (rw r at c.put_lists.ensures.1) (rw r at c.put_lists.ensures.2) (rw r at c.put_lists.ensures.3)

@@ -1,4 +1,5 @@
 use Rattle.forest.proofs.NodeWalks.{seeking-start, seeking-none, seeking-here, seeking-deep, seeking-token, seeking-stop}
+use mathlib.Core.Path.{◌≡◌}
 use native.Mathlib.Omega.{arith}
 use Rattle.forest.proofs.nodes.node_from.Goals as goal
 
@@ -18,4 +19,4 @@ pub loop-i-preserved : goal.loop-i-preserved
 loop-i-preserved c = seeking-token c.loop-i.invariant (omega arith) (omega arith) (omega arith)
 
 pub returns : goal.returns
-returns c = seeking-none c.loop-i.invariant (omega arith)
+returns c = let e : c.loop-i.i ≡ c.count_of-m.result = omega arith in rw e at (seeking-none c.loop-i.invariant (omega arith))

@@ -1,5 +1,7 @@
 use Rattle.forest.proofs.Searches.{searching-start, searching-here, searching-on, searching-none}
+use mathlib.Core.Path.{◌≡◌}
 use native.Mathlib.Omega.{arith}
+use Rattle.records.specs.Table.{count}
 use Rattle.forest.proofs.stretch.level_from.Goals as goal
 
 pub loop-i-init : goal.loop-i-init
@@ -12,4 +14,4 @@ pub loop-i-preserved : goal.loop-i-preserved
 loop-i-preserved c = searching-on c.loop-i.invariant (omega arith) (omega arith)
 
 pub returns : goal.returns
-returns c = searching-none c.loop-i.invariant (omega arith)
+returns c = let e : c.loop-i.i ≡ count c.args.t.now = omega arith in rw e at (searching-none c.loop-i.invariant (omega arith))

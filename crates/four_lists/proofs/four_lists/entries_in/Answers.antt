@@ -2,10 +2,10 @@ use Rattle.four_lists.specs.inner.Counts.{entries_in}
 use borrow.Author.Rules.{rules}
 use Rattle.four_lists.proofs.four_lists.entries_in.Goals as goal
 
-pub returns-in-Entries : goal.returns-in-Entries
+pub returns-in-Ok : goal.returns-in-Ok
 unfolding entries_in
-returns-in-Entries c = search rules
+returns-in-Ok c = search rules
 
-pub returns-in-Refused : goal.returns-in-Refused
+pub returns-in-Err : goal.returns-in-Err
 unfolding entries_in
-returns-in-Refused c = search rules
+returns-in-Err c = search rules

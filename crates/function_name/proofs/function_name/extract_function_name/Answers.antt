@@ -12,14 +12,14 @@ pub loop-i-init : goal.loop-i-init
 unfolding function_name
 loop-i-init c = (omega arith, walks-start _ function_name (omega arith) c.child_from-i.ensures)
 
-pub returns-in-Is : goal.returns-in-Is
+pub returns-in-Some : goal.returns-in-Some
 unfolding function_name
-returns-in-Is c = name-here c.loop-i.invariant.1 (omega arith) c.name_at.ensures c.in-Is.is
+returns-in-Some c = name-here c.loop-i.invariant.1 (omega arith) c.name_at.ensures c.in-Some.is
 
 pub loop-i-preserved : goal.loop-i-preserved
 unfolding function_name
 loop-i-preserved c =
-    (omega arith, name-next c.loop-i.invariant.1 (omega arith) c.name_at.ensures c.in-Open.is c.child_from-i-in-Open.ensures)
+    (omega arith, name-next c.loop-i.invariant.1 (omega arith) c.name_at.ensures c.in_default.is c.child_from-i-in-loop-i.ensures)
 
 pub returns : goal.returns
 unfolding function_name

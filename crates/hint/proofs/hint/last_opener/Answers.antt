@@ -1,23 +1,19 @@
-use Rattle.brackets.proofs.BracketLaws.{last_none, last-here, last_on}
-use mathlib.Core.Path.{refl}
-use Prim.Native.Nat.{◌-◌}
-use native.Mathlib.Omega.{arith}
+use Rattle.std.specs.Prelude.{Some}
+use Rattle.std.proofs.Common.{rules, tests}
+use Rattle.std.proofs.lemmas.Iterator.Adapters.{YieldsList-from_rev_slice}
+use Rattle.std.proofs.lemmas.Iterator.Search.{find_from_yields_List}
+use mathlib.Core.Path.{ap, ◌∙◌}
+use Rattle.hint.proofs.Walks.{shaped, last-down}
 use Rattle.hint.proofs.hint.last_opener.Goals as goal
 
-pub loop-j-init : goal.loop-j-init
-loop-j-init c = (omega arith, refl)
-
-pub overflow_cast-top : goal.overflow_cast-top
-overflow_cast-top c = omega (arith, c.type_inv.stack (c.loop-j.j - 1))
-
-pub overflow_cast-result : goal.overflow_cast-result
-overflow_cast-result c = omega (arith, c.type_inv.stack (c.loop-j.j - 1))
-
-pub returns-then-top-shape : goal.returns-then-top-shape
-returns-then-top-shape c = last-here _ _ _ (omega arith) c.loop-j.invariant.1 c.if-top-shape.true
-
-pub loop-j-preserved : goal.loop-j-preserved
-loop-j-preserved c = (omega arith, last_on _ _ _ (omega arith) c.loop-j.invariant.1 c.if-top-shape.false)
+pub returns-in_err-top : goal.returns-in_err-top
+returns-in_err-top c =
+    let a = c.args in
+    let f = find_from_yields_List (shaped a.shape) c.find.new.self _ c.find.result c.find.ensures.ran (YieldsList-from_rev_slice c.openers.result.now cc) (λ x b q k. search (rules, tests)) in
+    c.from_residual.ensures ∙ last-down a.shape a.stack.now c.openers.ensures.0 (rw c.in_err-top.was at f)
 
 pub returns : goal.returns
-returns c = last_none _ _ _ (omega arith) c.loop-j.invariant.1
+returns c =
+    let a = c.args in
+    let f = find_from_yields_List (shaped a.shape) c.find.new.self _ c.find.result c.find.ensures.ran (YieldsList-from_rev_slice c.openers.result.now cc) (λ x b q k. search (rules, tests)) in
+    ap Some c.from.ensures ∙ last-down a.shape a.stack.now c.openers.ensures.0 (rw c.in_ok-top.was at f)

@@ -1,15 +1,9 @@
-use Rattle.in_order.proofs.Fast.{never, order-at, order-node, order-deepest, order-token}
+use Rattle.in_order.proofs.Fast.{order-at, order-node, order-deepest, order-token}
 use mathlib.Core.Path.{sym, ◌∙◌}
 use mathlib.Core.Logic.{inl, inr}
 use native.Mathlib.Omega.{arith}
 use Rattle.in_order.proofs.in_order.follow.Goals as goal
 use Rattle.in_order.proofs.in_order.follow.Goals.{then-depth-e+else-e-depth+else-depth-eq0, else-depth-e}
-
-pub returns-then-e-depth : goal.returns-then-e-depth
-returns-then-e-depth c e = never (sym c.unexpected.ensures ∙ e)
-
-pub returns-then-depth-eq0 : goal.returns-then-depth-eq0
-returns-then-depth-eq0 c e = never (sym c.unexpected-then-depth-eq0.ensures ∙ e)
 
 pub offset_bounds-nodes-depth : goal.offset_bounds-nodes-depth
 offset_bounds-nodes-depth c = omega (arith, c.requires.1.shallow, c.if-e-depth.false)
@@ -17,26 +11,17 @@ offset_bounds-nodes-depth c = omega (arith, c.requires.1.shallow, c.if-e-depth.f
 pub bounds-nodes-depth : goal.bounds-nodes-depth
 bounds-nodes-depth c = omega (arith, c.requires.1.shallow, c.requires.1.wide, c.if-e-depth.false)
 
-pub returns-then-parent_at-parent : goal.returns-then-parent_at-parent
-returns-then-parent_at-parent c e = never (sym c.unexpected-then-parent_at-parent.ensures ∙ e)
-
-pub returns-then-not-span_fits : goal.returns-then-not-span_fits
-returns-then-not-span_fits c e = never (sym c.unexpected-then-not-span_fits.ensures ∙ e)
-
 pub returns-then-is_token : goal.returns-then-is_token
-returns-then-is_token c e =
-    let w = order-at _ c.requires.1 c.depth_at-depth.ensures.0 (elim c.if-depth-e.branch [ then-depth-e+else-e-depth+else-depth-eq0 w ↦ inl (w.if-e-depth.false, w.if-depth-eq0.false, w.parent-is) | else-depth-e w ↦ inr (w.if-depth-e.false, w.parent-is) ]) in rw c.expect.ensures (order-token _ w.0 (omega (arith, c.requires)) w.1 (omega (arith, c.parent_at.ensures.0, c.if-parent_at-parent.false)) (rw c.kind_at-kind.ensures.0 at (sym c.is_token.ensures ∙ c.if-is_token.true)) (rw (c.start_at.ensures.0, c.end_at-end.ensures.0) at (sym c.span_fits.ensures ∙ c.if-not-span_fits.false)) c.end_at-end.ensures.0)
-
-pub returns-then-kind-gt-LAST_NODE : goal.returns-then-kind-gt-LAST_NODE
-returns-then-kind-gt-LAST_NODE c e = never (sym c.unexpected-then-kind-gt-LAST_NODE.ensures ∙ e)
+returns-then-is_token c =
+    let w = order-at _ c.requires.1 c.depth_at-depth.ensures.0 (elim c.if-depth-e.branch [ then-depth-e+else-e-depth+else-depth-eq0 w ↦ inl (w.if-e-depth.false, w.if-depth-eq0.false, w.parent-is) | else-depth-e w ↦ inr (w.if-depth-e.false, w.parent-is) ]) in (order-token _ w.0 (omega (arith, c.requires)) w.1 (omega (arith, c.parent_at.ensures.0, c.if-parent_at-parent.false)) (rw c.kind_at-kind.ensures.0 at (sym c.is_token.ensures ∙ c.if-is_token.true)) (rw (c.start_at.ensures.0, c.end_at-end.ensures.0) at (sym c.span_fits.ensures ∙ c.if-not-span_fits.false)) c.end_at-end.ensures.0)
 
 pub returns-then-depth-ge-MOST_DEPTH : goal.returns-then-depth-ge-MOST_DEPTH
-returns-then-depth-ge-MOST_DEPTH c e =
-    let w = order-at _ c.requires.1 c.depth_at-depth.ensures.0 (elim c.if-depth-e.branch [ then-depth-e+else-e-depth+else-depth-eq0 w ↦ inl (w.if-e-depth.false, w.if-depth-eq0.false, w.parent-is) | else-depth-e w ↦ inr (w.if-depth-e.false, w.parent-is) ]) in rw c.expect-then-depth-ge-MOST_DEPTH.ensures (order-deepest _ w.0 (omega (arith, c.requires)) w.1 (omega (arith, c.parent_at.ensures.0, c.if-parent_at-parent.false)) (omega (arith, c.kind_at-kind.ensures.0, c.if-kind-gt-LAST_NODE.false)) (omega (arith, c.if-depth-ge-MOST_DEPTH.true)))
+returns-then-depth-ge-MOST_DEPTH c =
+    let w = order-at _ c.requires.1 c.depth_at-depth.ensures.0 (elim c.if-depth-e.branch [ then-depth-e+else-e-depth+else-depth-eq0 w ↦ inl (w.if-e-depth.false, w.if-depth-eq0.false, w.parent-is) | else-depth-e w ↦ inr (w.if-depth-e.false, w.parent-is) ]) in (order-deepest _ w.0 (omega (arith, c.requires)) w.1 (omega (arith, c.parent_at.ensures.0, c.if-parent_at-parent.false)) (omega (arith, c.kind_at-kind.ensures.0, c.if-kind-gt-LAST_NODE.false)) (omega (arith, c.if-depth-ge-MOST_DEPTH.true)))
 
 pub bounds-nodes-depth-2 : goal.bounds-nodes-depth-2
 bounds-nodes-depth-2 c = omega (arith, c.requires.1.wide, c.if-depth-ge-MOST_DEPTH.false)
 
 pub returns : goal.returns
-returns c e =
-    let w = order-at _ c.requires.1 c.depth_at-depth.ensures.0 (elim c.if-depth-e.branch [ then-depth-e+else-e-depth+else-depth-eq0 w ↦ inl (w.if-e-depth.false, w.if-depth-eq0.false, w.parent-is) | else-depth-e w ↦ inr (w.if-depth-e.false, w.parent-is) ]) in rw c.expect-2.ensures (order-node _ w.0 (omega (arith, c.requires)) w.1 (omega (arith, c.parent_at.ensures.0, c.if-parent_at-parent.false)) (omega (arith, c.kind_at-kind.ensures.0, c.if-kind-gt-LAST_NODE.false)) (omega (arith, c.if-depth-ge-MOST_DEPTH.false)))
+returns c =
+    let w = order-at _ c.requires.1 c.depth_at-depth.ensures.0 (elim c.if-depth-e.branch [ then-depth-e+else-e-depth+else-depth-eq0 w ↦ inl (w.if-e-depth.false, w.if-depth-eq0.false, w.parent-is) | else-depth-e w ↦ inr (w.if-depth-e.false, w.parent-is) ]) in (order-node _ w.0 (omega (arith, c.requires)) w.1 (omega (arith, c.parent_at.ensures.0, c.if-parent_at-parent.false)) (omega (arith, c.kind_at-kind.ensures.0, c.if-kind-gt-LAST_NODE.false)) (omega (arith, c.if-depth-ge-MOST_DEPTH.false)))

@@ -18,7 +18,7 @@ returns-then-is_below c =
 
 pub loop-i-preserved-then-kind-eq-WITH_EXPRESSION_ITEM : goal.loop-i-preserved-then-kind-eq-WITH_EXPRESSION_ITEM
 loop-i-preserved-then-kind-eq-WITH_EXPRESSION_ITEM c =
-    (omega arith, pick-item _ _ _ c.loop-i.invariant.1 (omega arith) (omega arith) (omega arith) (omega arith) c.rest_from-s.ensures.0 (omega arith) (sym c.is_below.ensures ∙ c.if-is_below.false) c.rest_from-item.ensures.0 refl c.put_cte-next.ensures.0)
+    (omega arith, pick-item _ _ _ c.loop-i.invariant.1 (omega arith) (omega arith) (omega arith) (omega arith) c.rest_from-s.ensures.0 (omega arith) (sym c.is_below.ensures ∙ c.if-is_below.false) c.rest_from.ensures.0 refl c.put_cte-next.ensures.0)
 
 pub loop-i-preserved : goal.loop-i-preserved
 loop-i-preserved c =

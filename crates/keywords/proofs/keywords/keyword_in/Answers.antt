@@ -1,6 +1,6 @@
 use native.Mathlib.Omega.{arith}
 use Rattle.keywords.proofs.KeywordLaws.{not-keyword}
-use Rattle.keywords.proofs.WordLaws.{folded-letter, folded-none}
+use Rattle.keywords.proofs.WordLaws.{folded-none}
 use Rattle.keywords.proofs.keywords.keyword_in.Goals as goal
 
 pub returns-then-n-lt-SHORTEST : goal.returns-then-n-lt-SHORTEST
@@ -8,13 +8,6 @@ returns-then-n-lt-SHORTEST c = not-keyword _ (λ low high l. omega arith)
 
 pub returns-then-n-gt-LONGEST : goal.returns-then-n-gt-LONGEST
 returns-then-n-gt-LONGEST c = not-keyword _ (λ low high l. omega arith)
-
-pub group-requires : goal.group-requires
-group-requires c = (c.requires, omega arith, omega arith, omega arith, omega arith)
-
-pub among-requires : goal.among-requires
-among-requires c =
-    (omega arith, rw (← folded-letter c.cleared-first.ensures (omega arith) (omega arith)) c.group.ensures)
 
 pub returns-in_default : goal.returns-in_default
 returns-in_default c = not-keyword _ (λ low high. folded-none c.cleared-first.ensures (λ h g. omega arith))

@@ -6,13 +6,10 @@ pub returns-then-out-next : goal.returns-then-out-next
 returns-then-out-next c = (putting-none _ _ _ (omega arith), omega arith)
 
 pub loop-i-init : goal.loop-i-init
-loop-i-init c = (omega arith, putting-start _ _ _)
+loop-i-init c = putting-start _ _ _
 
 pub loop-i-preserved : goal.loop-i-preserved
-loop-i-preserved c = (omega arith, putting-next _ _ _ c.loop-i.invariant.1 (omega arith) c.put_number.ensures)
-
-pub shape_of-out : goal.shape_of-out
-shape_of-out c = c.loop-i.invariant.0.1
+loop-i-preserved c = putting-next _ _ _ c.loop-i.invariant (omega arith) c.put_number.ensures
 
 pub returns : goal.returns
-returns c = (putting-end _ _ _ c.loop-i.invariant.1 (omega arith) (omega arith), omega arith)
+returns c = (putting-end _ _ _ c.loop-i.invariant (omega arith) (omega arith), omega arith)

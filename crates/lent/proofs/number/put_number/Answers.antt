@@ -1,16 +1,8 @@
-use lib.ListN.{length-set}
-use native.Mathlib.Numerals.{towards_suc}
+use Rattle.std.proofs.Common.{rules}
 use native.Mathlib.Omega.{arith}
+use Rattle.lent.specs.Numbers.{le4}
+use Rattle.lent.proofs.Writes.{sets-part}
 use Rattle.lent.proofs.number.put_number.Goals as goal
 
-pub bounds-out-at-2 : goal.bounds-out-at-2
-bounds-out-at-2 c = simp length-set (omega arith)
-
-pub bounds-out-at-3 : goal.bounds-out-at-3
-bounds-out-at-3 c = simp length-set (omega arith)
-
-pub bounds-out-at-4 : goal.bounds-out-at-4
-bounds-out-at-4 c = simp length-set (omega arith)
-
 pub returns : goal.returns
-returns c = simp towards_suc
+returns c = let a = c.args in sets-part (le4 a.v) a.out.now a.at _ (search rules) (omega arith) (omega arith)

@@ -1,18 +1,13 @@
-use Rattle.lines.proofs.Reading.{digits-next, digits-fail, digits-end}
-use mathlib.Core.Path.{refl, sym, ◌∙◌}
-use native.Mathlib.Omega.{arith}
+use Rattle.std.proofs.Common.{rules, tests}
+use Rattle.std.proofs.lemmas.Iterator.{YieldsList-from_slice}
+use Rattle.std.proofs.lemmas.Iterator.Search.{all_from_yields_List}
+use mathlib.Core.Path.{◌∙◌}
+use Rattle.lines.specs.Lines.{is_digit}
+use Rattle.lines.proofs.Reading.{digits-all}
 use Rattle.lines.proofs.input.all_digits.Goals as goal
 
-pub loop-i-init : goal.loop-i-init
-loop-i-init c = (omega arith, refl)
-
-pub returns-then-not-is_digit : goal.returns-then-not-is_digit
-returns-then-not-is_digit c =
-    digits-fail c.args.bytes.now c.loop-i.i c.loop-i.invariant.1 (omega arith) (sym c.is_digit.ensures ∙ c.if-not-is_digit.true)
-
-pub loop-i-preserved : goal.loop-i-preserved
-loop-i-preserved c =
-    (omega arith, digits-next c.args.bytes.now c.loop-i.i c.loop-i.invariant.1 (omega arith) (sym c.is_digit.ensures ∙ c.if-not-is_digit.false))
-
 pub returns : goal.returns
-returns c = digits-end c.args.bytes.now c.loop-i.i c.loop-i.invariant.1 (omega arith)
+returns c =
+    let bs = c.args.bytes.now in
+    all_from_yields_List is_digit c.all.new.self _ c.all.result c.all.ensures.ran (YieldsList-from_slice bs cc) (λ x b q k. search (rules, tests))
+    ∙ digits-all bs

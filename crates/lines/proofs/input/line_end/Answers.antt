@@ -1,15 +1,11 @@
-use Rattle.lines.proofs.Reading.{span-next, span-found, span-end}
-use native.Mathlib.Omega.{arith}
+use Rattle.std.proofs.Common.{rules, tests}
+use Rattle.std.proofs.lemmas.Iterator.{YieldsList-from_slice}
+use Rattle.std.proofs.lemmas.Iterator.Search.{position_from_yields_List}
+use Rattle.lines.proofs.Reading.{is_lf, span-or-end}
 use Rattle.lines.proofs.input.line_end.Goals as goal
 
-pub loop-i-init : goal.loop-i-init
-loop-i-init c = (omega arith, omega arith)
-
-pub returns-then-text-i-eq-LF : goal.returns-then-text-i-eq-LF
-returns-then-text-i-eq-LF c = (span-found _ _ c.loop-i.invariant.1 (omega arith) (omega arith), omega arith)
-
-pub loop-i-preserved : goal.loop-i-preserved
-loop-i-preserved c = (omega arith, span-next _ _ c.loop-i.invariant.1 (omega arith) (λ e. omega arith))
-
 pub returns : goal.returns
-returns c = (span-end _ _ c.loop-i.invariant.1 (omega arith), omega arith)
+returns c =
+    let bs = c.args.text.now in
+    let p = position_from_yields_List is_lf c.position.new.self _ c.position.result c.position.ensures.ran (YieldsList-from_slice bs cc) (λ x b q k. search (rules, tests)) in
+    span-or-end bs p c.unwrap_or.ensures

@@ -3,10 +3,10 @@ use native.Mathlib.Omega.{arith}
 use Rattle.lines.proofs.input.value.Goals as goal
 
 pub returns-in-48-to-57 : goal.returns-in-48-to-57
-returns-in-48-to-57 c = value-decimal _ (omega arith) (omega arith)
+returns-in-48-to-57 c = rw c.from.ensures (value-decimal _ (omega arith) (omega arith))
 
 pub returns-in-97-to-102 : goal.returns-in-97-to-102
-returns-in-97-to-102 c = value-letter _ (omega arith) (omega arith)
+returns-in-97-to-102 c = rw c.from-in-97-to-102.ensures (value-letter _ (omega arith) (omega arith))
 
 pub returns-in_default : goal.returns-in_default
 returns-in_default c = value_low _ (omega arith)

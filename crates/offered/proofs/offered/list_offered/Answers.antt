@@ -1,19 +1,26 @@
-use Rattle.offered.proofs.OfferedLists.{offered-copied, offered-filled, offered-short}
+use Rattle.std.proofs.Common.{rules}
+use mathlib.Core.Path.{refl}
+use mathlib.Core.List.{[], map}
+use lib.ListN.{length-map}
+use Rattle.lent.specs.Lists.{Written}
+use Rattle.lent.proofs.Writes.{written-map, length-wide, bytes-map}
+use Rattle.lists.proofs.ListLaws.{question}
+use Rattle.names.specs.Bindings.{binding_row, binding_bytes}
+use Rattle.enclosing.specs.Offered.{offered_in}
+use Prim.Native.Nat.{◌+◌, ◌≤◌}
 use native.Mathlib.Omega.{arith}
+use Rattle.enclosing.specs.inner.Climb.{around_bytes, own_list_bytes}
 use Rattle.offered.proofs.offered.list_offered.Goals as goal
 
-pub collect_offered-size-requires : goal.collect_offered-size-requires
-collect_offered-size-requires c = (omega arith, c.requires.1)
-
-pub returns-then-out-size : goal.returns-then-out-size
-returns-then-out-size c = offered-short _ _ _ _ c.collect_offered-size.ensures.0 c.if-out-size.true
-
-pub returns-then-size-le-KEPT_BYTES : goal.returns-then-size-le-KEPT_BYTES
-returns-then-size-le-KEPT_BYTES c =
-    offered-copied _ _ _ _ c.collect_offered-size.ensures.0 (omega arith) (omega arith) c.copy_front.ensures
-
-pub collect_offered-requires : goal.collect_offered-requires
-collect_offered-requires c = (omega arith, c.requires.1)
+pub list_walked-requires-clause-counted : goal.list_walked-requires-clause-counted
+list_walked-requires-clause-counted c p n q e = let b : n ≤ 0 + own_list_bytes + around_bytes = search rules in omega (arith, b)
 
 pub returns : goal.returns
-returns c = offered-filled _ _ _ _ c.collect_offered-size.ensures.0 c.collect_offered.ensures.0 (omega arith)
+returns c =
+    let a = c.args in
+    let es = offered_in a.source.now a.table.now a.n in
+    question binding_row es [] _ refl
+    (c.list_walked.ensures (map binding_row es) (λ p q n e.
+    let w : Written binding_row es p.now 0 q.now n = search rules in
+    written-map binding_row es w)
+    (rw (bytes-map binding_row es, length-map es binding_row) (length-wide binding_row binding_bytes (λ b. refl) es)))

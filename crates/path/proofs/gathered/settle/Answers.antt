@@ -1,6 +1,9 @@
 use Rattle.path.proofs.Steps.{settles}
-use Rattle.path.specs.inner.Gathered.{settled_by}
+use Rattle.path.specs.inner.Gathered.{ruling_of, settled_by}
 use Rattle.path.proofs.gathered.settle.Goals as goal
 
-pub returns : goal.returns
-returns c = settles _ _ _ (unfold settled_by in simp (c.chosen.ensures, c.chosen-2.ensures))
+pub returns-in-None : goal.returns-in-None
+returns-in-None c = settles _ _ _ (unfold settled_by ruling_of in rw c.in-None.is)
+
+pub returns-in-Some : goal.returns-in-Some
+returns-in-Some c = settles _ _ _ (unfold settled_by ruling_of in rw c.in-Some.is)

@@ -1,5 +1,6 @@
 use Rattle.path.proofs.Runs.{run-start, run_on}
-use mathlib.Core.Path.{sym, ◌∙◌}
+use Prim.Native.Nat.{◌-◌}
+use mathlib.Core.Path.{◌≡◌, sym, ◌∙◌}
 use native.Mathlib.Omega.{arith}
 use Rattle.path.proofs.plain.run_down.Goals as goal
 
@@ -11,9 +12,6 @@ returns-then-kind_at-le-LAST_RULED c = run-start (omega arith)
 
 pub loop-i-init : goal.loop-i-init
 loop-i-init c = (omega arith, run-start (omega arith))
-
-pub overflow_add-i : goal.overflow_add-i
-overflow_add-i c = omega (arith, c.loop-i.invariant.1.within)
 
 pub returns-then-depth_at-k : goal.returns-then-depth_at-k
 returns-then-depth_at-k c = c.loop-i.invariant.1
@@ -29,4 +27,4 @@ loop-i-preserved c =
     (omega arith, run_on c.loop-i.invariant.1 (omega arith) (omega arith) (omega arith) (sym c.is_holder.ensures ∙ c.if-not-is_holder.false))
 
 pub returns : goal.returns
-returns c = c.loop-i.invariant.1
+returns c = let e : c.loop-i.i ≡ c.count_of-m.result - 1 = omega arith in rw e at c.loop-i.invariant.1

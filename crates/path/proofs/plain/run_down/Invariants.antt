@@ -7,6 +7,3 @@ use Rattle.path.proofs.plain.run_down.Given as goal
 
 abbrev pub invariant-loop-i : goal.invariant-loop-i
 invariant-loop-i l = ((l.k ≡ depth_at l.s l.i + 1) × (l.k ≤ word_limit) × Plain (kind_at l.s l.i)) × Run l.above l.s l.j l.offset l.i
-
-abbrev pub decreases-loop-i : goal.decreases-loop-i
-decreases-loop-i l = l.m - l.i

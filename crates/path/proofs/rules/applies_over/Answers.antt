@@ -1,25 +1,18 @@
 use Rattle.path.specs.inner.Rules.{applies_over}
-use native.Mathlib.Omega.{arith}
-use borrow.Author.Tests.{ne_eqb}
+use Rattle.path.proofs.Steps.{any-over}
 use Rattle.path.proofs.rules.applies_over.Goals as goal
 
-pub returns-in-4 : goal.returns-in-4
+pub returns-in-Insert : goal.returns-in-Insert
 unfolding applies_over
-returns-in-4 c = rw c.in-4.is
+returns-in-Insert c = rw c.in-Insert.is
 
-pub returns-in-9 : goal.returns-in-9
+pub returns-in-Definition : goal.returns-in-Definition
 unfolding applies_over
-returns-in-9 c = rw c.in-9.is
+returns-in-Definition c = rw c.in-Definition.is
 
-pub returns-in-13 : goal.returns-in-13
+pub returns-in-Start : goal.returns-in-Start
 unfolding applies_over
-returns-in-13 c = rw c.in-13.is
+returns-in-Start c = rw c.in-Start.is
 
 pub returns-in_default : goal.returns-in_default
-unfolding applies_over
-returns-in_default c =
-    simp (
-      ne_eqb c.args.rule 4 (omega arith),
-      ne_eqb c.args.rule 9 (omega arith),
-      ne_eqb c.args.rule 13 (omega arith),
-    )
+returns-in_default c = any-over _ _ c.in_default.not-Insert c.in_default.not-Definition c.in_default.not-Start

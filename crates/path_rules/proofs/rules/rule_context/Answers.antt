@@ -1,71 +1,52 @@
 use Rattle.contexts.specs.PathRules.{path_rules}
 use Rattle.contexts.specs.inner.ByNumber.{gives, given_by}
-use native.Mathlib.Omega.{arith}
-use borrow.Author.Tests.{ne_eqb}
+use Rattle.path.specs.inner.Rules.{rule_number}
 use Rattle.path_rules.proofs.rules.rule_context.Goals as goal
 
-pub returns-in-2 : goal.returns-in-2
-unfolding gives given_by path_rules
-returns-in-2 c = λ base. rw c.in-2.is (c.table_ref_or_dot.ensures base)
+pub returns-in-From : goal.returns-in-From
+unfolding gives given_by rule_number path_rules
+returns-in-From c = λ base. rw c.in-From.is (c.table_ref_or_dot.ensures base)
 
-pub returns-in-3 : goal.returns-in-3
-unfolding gives given_by path_rules
-returns-in-3 c = λ base. rw c.in-3.is (c.join_context.ensures base)
+pub returns-in-Join : goal.returns-in-Join
+unfolding gives given_by rule_number path_rules
+returns-in-Join c = λ base. rw c.in-Join.is (c.join_context.ensures base)
 
-pub returns-in-4 : goal.returns-in-4
-unfolding gives given_by path_rules
-returns-in-4 c = λ base. rw c.in-4.is (c.table_ref_or_dot-in-4.ensures base)
+pub returns-in-Insert : goal.returns-in-Insert
+unfolding gives given_by rule_number path_rules
+returns-in-Insert c = λ base. rw c.in-Insert.is (c.table_ref_or_dot-in-Insert.ensures base)
 
-pub returns-in-5 : goal.returns-in-5
-unfolding gives given_by path_rules
-returns-in-5 c = λ base. rw c.in-5.is
+pub returns-in-Settings : goal.returns-in-Settings
+unfolding gives given_by rule_number path_rules
+returns-in-Settings c = λ base. rw c.in-Settings.is
 
-pub returns-in-6 : goal.returns-in-6
-unfolding gives given_by path_rules
-returns-in-6 c = λ base. rw c.in-6.is
+pub returns-in-Engine : goal.returns-in-Engine
+unfolding gives given_by rule_number path_rules
+returns-in-Engine c = λ base. rw c.in-Engine.is
 
-pub returns-in-7 : goal.returns-in-7
-unfolding gives given_by path_rules
-returns-in-7 c = λ base. rw c.in-7.is
+pub returns-in-Format : goal.returns-in-Format
+unfolding gives given_by rule_number path_rules
+returns-in-Format c = λ base. rw c.in-Format.is
 
-pub returns-in-8 : goal.returns-in-8
-unfolding gives given_by path_rules
-returns-in-8 c = λ base. rw c.in-8.is
+pub returns-in-DataType : goal.returns-in-DataType
+unfolding gives given_by rule_number path_rules
+returns-in-DataType c = λ base. rw c.in-DataType.is
 
-pub returns-in-9 : goal.returns-in-9
-unfolding gives given_by path_rules
-returns-in-9 c = λ base. rw c.in-9.is
+pub returns-in-Definition : goal.returns-in-Definition
+unfolding gives given_by rule_number path_rules
+returns-in-Definition c = λ base. rw c.in-Definition.is
 
-pub returns-in-10 : goal.returns-in-10
-unfolding gives given_by path_rules
-returns-in-10 c = λ base. rw c.in-10.is
+pub returns-in-Codec : goal.returns-in-Codec
+unfolding gives given_by rule_number path_rules
+returns-in-Codec c = λ base. rw c.in-Codec.is
 
-pub returns-in-11 : goal.returns-in-11
-unfolding gives given_by path_rules
-returns-in-11 c = λ base. rw c.in-11.is (c.function_argument.ensures base)
+pub returns-in-Function : goal.returns-in-Function
+unfolding gives given_by rule_number path_rules
+returns-in-Function c = λ base. rw c.in-Function.is (c.function_argument.ensures base)
 
-pub returns-in-12 : goal.returns-in-12
-unfolding gives given_by path_rules
-returns-in-12 c = λ base. rw c.in-12.is (c.column_context.ensures base)
+pub returns-in-Column : goal.returns-in-Column
+unfolding gives given_by rule_number path_rules
+returns-in-Column c = λ base. rw c.in-Column.is (c.column_context.ensures base)
 
-pub returns-in-13 : goal.returns-in-13
-unfolding gives given_by path_rules
-returns-in-13 c = λ base. rw c.in-13.is
-
-pub returns-in_default : goal.returns-in_default
-unfolding gives given_by path_rules
-returns-in_default c =
-    λ base. simp (
-      ne_eqb c.args.rule 2 (omega arith),
-      ne_eqb c.args.rule 3 (omega arith),
-      ne_eqb c.args.rule 4 (omega arith),
-      ne_eqb c.args.rule 5 (omega arith),
-      ne_eqb c.args.rule 6 (omega arith),
-      ne_eqb c.args.rule 7 (omega arith),
-      ne_eqb c.args.rule 8 (omega arith),
-      ne_eqb c.args.rule 9 (omega arith),
-      ne_eqb c.args.rule 10 (omega arith),
-      ne_eqb c.args.rule 11 (omega arith),
-      ne_eqb c.args.rule 12 (omega arith),
-      ne_eqb c.args.rule 13 (omega arith),
-    )
+pub returns-in-Start : goal.returns-in-Start
+unfolding gives given_by rule_number path_rules
+returns-in-Start c = λ base. rw c.in-Start.is

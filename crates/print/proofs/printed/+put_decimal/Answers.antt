@@ -6,9 +6,6 @@ use Rattle.print.proofs.printed.+put_decimal.Goals as goal
 pub returns-then-v-lt10 : goal.returns-then-v-lt10
 returns-then-v-lt10 t c = rw (decimal-small c.args.v (omega arith)) c.put_byte.ensures
 
-pub put_decimal-next-requires : goal.put_decimal-next-requires
-put_decimal-next-requires t c = (omega arith, (omega arith, omega arith))
-
 pub put_byte-requires-2 : goal.put_byte-requires-2
 put_byte-requires-2 t c = omega (arith, decimal-length 8 (c.args.v / 10) (omega arith))
 

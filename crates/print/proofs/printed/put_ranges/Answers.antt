@@ -1,18 +1,10 @@
-use Rattle.print.proofs.Writing.{rest-start, rest-turn, rest_end, ranges-start, ranges-turn, ranges-none}
-use mathlib.Core.Path.{refl}
-use Prim.Native.Nat.{◌-◌}
+use Rattle.print.proofs.Writing.{rest-turn, rest_end, ranges-turn, ranges-none}
 use native.Mathlib.Omega.{arith}
 use Rattle.print.proofs.printed.put_ranges.Goals as goal
-
-pub loop-i-init : goal.loop-i-init
-loop-i-init c = (omega arith, rest-start _ _ _ _ _ (ranges-start _ _ _) refl)
 
 pub loop-i-preserved : goal.loop-i-preserved
 loop-i-preserved c =
     let a = c.args in (omega arith, rest-turn _ _ (ranges-turn a.list.now a.from a.n c.loop-i.i (omega arith)) (rw (c.word_at-start.ensures.0, c.word_at-end.ensures.0) at c.put_range-next.ensures.0) c.loop-i.invariant.1)
-
-pub shape_of-out : goal.shape_of-out
-shape_of-out c = c.loop-i.invariant.0.2
 
 pub returns : goal.returns
 returns c =

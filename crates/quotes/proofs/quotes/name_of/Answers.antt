@@ -5,8 +5,8 @@ use Rattle.quotes.proofs.quotes.name_of.Goals as goal
 
 pub returns-then-t-ne-QUOTED_IDENTIFIER : goal.returns-then-t-ne-QUOTED_IDENTIFIER
 unfolding name_of
-returns-then-t-ne-QUOTED_IDENTIFIER c = rw (ne_eqb c.args.t.kind 132 (omega arith), c.span_of-outer.ensures)
+returns-then-t-ne-QUOTED_IDENTIFIER c = rw (ne_eqb c.args.t.kind 132 (omega arith), c.from-outer.ensures)
 
 pub returns : goal.returns
 unfolding name_of
-returns c = rw (eq-eqb c.args.t.kind 132 (omega arith), c.span_of-outer.ensures, c.unquote-inner.ensures)
+returns c = rw (eq-eqb c.args.t.kind 132 (omega arith), c.from-outer.ensures, c.unquote-inner.ensures)

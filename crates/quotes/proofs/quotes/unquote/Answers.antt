@@ -2,11 +2,8 @@ use Rattle.quotes.proofs.QuoteLaws.{unquoted-short, unquoted-pair, unquoted-whol
 use native.Mathlib.Omega.{arith}
 use Rattle.quotes.proofs.quotes.unquote.Goals as goal
 
-pub returns-then-end-start : goal.returns-then-end-start
-returns-then-end-start c = unquoted-short _ _ _ (omega arith)
-
-pub returns-then-end-start-lt2 : goal.returns-then-end-start-lt2
-returns-then-end-start-lt2 c = unquoted-short _ _ _ (omega arith)
+pub returns-then-saturating_sub-lt2 : goal.returns-then-saturating_sub-lt2
+returns-then-saturating_sub-lt2 c = unquoted-short _ _ _ (omega arith)
 
 pub returns-then-is_mark-last : goal.returns-then-is_mark-last
 returns-then-is_mark-last c =

@@ -1,4 +1,4 @@
-use Prim.Native.Nat.{◌-◌, ◌≤◌}
+use Prim.Native.Nat.{◌≤◌}
 use Rattle.records.specs.Table.{count}
 use Rattle.conditions.specs.Conditions.{most_records}
 use Rattle.refusals.specs.ByRecord.{rules_from}
@@ -7,7 +7,4 @@ use Rattle.refusals.proofs.Checks.{Checking}
 use Rattle.refusals.proofs.by_record.check_records.Given as goal
 
 abbrev pub invariant-loop-i : goal.invariant-loop-i
-invariant-loop-i l = ((l.i ≤ l.m) × (count l.table ≤ most_records)) × Checking l.table l.n l.i l.b l.above (first (rules_from l.table l.n 0 (count l.table)))
-
-abbrev pub decreases-loop-i : goal.decreases-loop-i
-decreases-loop-i l = l.m - l.i
+invariant-loop-i l = (count l.table ≤ most_records) × Checking l.table l.n l.i l.b l.above (first (rules_from l.table l.n 0 (count l.table)))

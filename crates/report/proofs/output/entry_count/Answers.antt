@@ -1,10 +1,10 @@
 use Rattle.report.specs.inner.Room.{entry_count}
 use Rattle.report.proofs.output.entry_count.Goals as goal
 
-pub returns-in-Entries : goal.returns-in-Entries
+pub returns-in-Ok : goal.returns-in-Ok
 unfolding entry_count
-returns-in-Entries c = rw c.in-Entries.is
+returns-in-Ok c = rw c.in-Ok.is
 
-pub returns-in-Refused : goal.returns-in-Refused
+pub returns-in-Err : goal.returns-in-Err
 unfolding entry_count
-returns-in-Refused c = rw c.in-Refused.is
+returns-in-Err c = rw c.in-Err.is

@@ -1,3 +1,4 @@
+use Rattle.std.proofs.lemmas.Result.{err_from_is_err_and}
 use Rattle.class_list.specs.Classes.{class_row}
 use Rattle.keywords.specs.inner.KeywordTable.{keyword_bytes}
 use Rattle.keywords.specs.Keywords.{keywords}
@@ -14,14 +15,15 @@ pub list_classes-requires : goal.list_classes-requires
 unfolding keyword_bytes flatten keywords bytes_of
 list_classes-requires c =
     let checked = c.check.ensures in
-    let admitted = c.in-Admitted.is in
+    let admitted = c.in_ok-check.was in
     (record { bytes = refl; places = refl }, (admitted-tidy _ _ 0 (sym checked ∙ admitted)).few, admitted-carries _ _ checked admitted)
 
-pub returns-in-Refused : goal.returns-in-Refused
+pub returns-in_err-check : goal.returns-in_err-check
 unfolding keyword_bytes flatten keywords bytes_of
-returns-in-Refused c = list-refused class_row _ _ _ (rules-refused _ _ _ c.check.ensures c.in-Refused.is)
+returns-in_err-check c =
+    let p = err_from_is_err_and c.from_residual.result c.from_residual.ensures.1 in rw (p.1, p.2) (list-refused class_row _ _ _ (rules-refused _ _ _ c.check.ensures c.in_err-check.was))
 
-pub returns-in-Admitted : goal.returns-in-Admitted
+pub returns : goal.returns
 unfolding keyword_bytes flatten keywords bytes_of
-returns-in-Admitted c =
-    list-admitted class_row _ _ _ (rules-passed _ _ _ c.check.ensures c.in-Admitted.is) c.list_classes.ensures
+returns c =
+    list-admitted class_row _ _ _ (rules-passed _ _ _ c.check.ensures c.in_ok-check.was) c.list_classes.ensures

@@ -1,12 +1,14 @@
-use Rattle.statement.proofs.Statements.{reply-refused, reply-told}
+use Rattle.std.proofs.lemmas.Result.{err_from_is_err_and}
+use Rattle.lent.proofs.Verdicts.{reply-refused, reply-given}
 use Rattle.forest.proofs.Sense.{admitted-sized}
 use Rattle.statement.proofs.statement.enclosing_statement.Goals as goal
 
 pub find_enclosing_statement-requires : goal.find_enclosing_statement-requires
-find_enclosing_statement-requires c = admitted-sized _ _ c.check.ensures c.in-Admitted.is
+find_enclosing_statement-requires c = admitted-sized _ _ c.check.ensures c.in_ok-check.was
 
-pub returns-in-Refused : goal.returns-in-Refused
-returns-in-Refused c = reply-refused c.check.ensures _ c.in-Refused.is
+pub returns-in_err-check : goal.returns-in_err-check
+returns-in_err-check c =
+    let p = err_from_is_err_and c.from_residual.result c.from_residual.ensures.1 in rw (p.1, p.2) (reply-refused _ c.check.ensures c.in_err-check.was)
 
-pub returns-in-Admitted : goal.returns-in-Admitted
-returns-in-Admitted c = reply-told c.check.ensures _ c.in-Admitted.is c.find_enclosing_statement.ensures c.told.ensures
+pub returns : goal.returns
+returns c = reply-given _ c.check.ensures c.in_ok-check.was c.find_enclosing_statement.ensures

@@ -5,16 +5,16 @@ use Rattle.table.proofs.check.verdict_on.Goals as goal
 
 pub returns-then-bad_length : goal.returns-then-bad_length
 unfolding verdict_on
-returns-then-bad_length c = simp (← c.bad_length.ensures, c.if-bad_length.true)
+returns-then-bad_length c = c.refused.ensures ∙ simp (← c.bad_length.ensures, c.if-bad_length.true)
 
 pub returns-then-too_long : goal.returns-then-too_long
 unfolding verdict_on
-returns-then-too_long c = simp (← c.bad_length.ensures, c.if-bad_length.false, ← c.too_long.ensures, c.if-too_long.true)
+returns-then-too_long c = c.refused-then-too_long.ensures ∙ simp (← c.bad_length.ensures, c.if-bad_length.false, ← c.too_long.ensures, c.if-too_long.true)
 
 pub returns-then-bad_offsets : goal.returns-then-bad_offsets
 unfolding verdict_on
 returns-then-bad_offsets c =
-    simp (← c.bad_length.ensures, c.if-bad_length.false, ← c.too_long.ensures, c.if-too_long.false, ← c.bad_offsets.ensures, c.if-bad_offsets.true)
+    c.refused-then-bad_offsets.ensures ∙ simp (← c.bad_length.ensures, c.if-bad_length.false, ← c.too_long.ensures, c.if-too_long.false, ← c.bad_offsets.ensures, c.if-bad_offsets.true)
 
 pub all_in_order-requires : goal.all_in_order-requires
 unfolding verdict_on

@@ -8,10 +8,10 @@ use Rattle.tables.proofs.tables.hand_on.Goals as goal
 pub returns-in-Aliases : goal.returns-in-Aliases
 returns-in-Aliases c = (rw (c.in-Aliases.is, hand-none _) (written_none as_row _ _), omega arith)
 
-pub returns-in-Nothing : goal.returns-in-Nothing
-returns-in-Nothing c =
-    (rw (← c.pending_of.ensures, c.in-Nothing.is, hand-nothing _) (written_none as_row _ _), omega arith)
+pub returns-in-None : goal.returns-in-None
+returns-in-None c =
+    (rw (← c.pending_of.ensures, c.in-None.is, hand-nothing _) (written_none as_row _ _), omega arith)
 
-pub returns-in-Held : goal.returns-in-Held
-returns-in-Held c =
-    (rw (c.in-References.is, ← c.pending_of.ensures, c.in-Held.is, hand-held _) (written-map reference_row _ c.put_reference.ensures.0), omega arith)
+pub returns-in-Some : goal.returns-in-Some
+returns-in-Some c =
+    (rw (c.in-References.is, ← c.pending_of.ensures, c.in-Some.is, hand-held _) (written-map reference_row _ c.put_reference.ensures.0), omega arith)

@@ -12,7 +12,7 @@ returns-in-References c = (λ alias. rw (c.in-References.is, alias-none _ _) (wr
 
 pub returns-then-is_waiting : goal.returns-then-is_waiting
 returns-then-is_waiting c =
-    (λ alias. rw (c.in-Aliases.is, ← bound-at _ _ _ _ c.stretch_of-part.ensures.0 refl, alias-held _ _ (c.is_waiting.ensures _ alias) c.if-is_waiting.true) (written-map binding_row _ c.put_alias_name.ensures.0), omega arith)
+    (λ alias. rw (c.in-Aliases.is, ← bound-at _ _ _ _ c.stretch_of.ensures.0 refl, alias-held _ _ (c.is_waiting.ensures _ alias) c.if-is_waiting.true) (written-map binding_row _ (rw c.stretch_of.ensures.1 at c.put_alias_name.ensures.0)), omega arith)
 
 pub returns-else-is_waiting : goal.returns-else-is_waiting
 returns-else-is_waiting c =

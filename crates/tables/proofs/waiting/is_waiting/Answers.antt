@@ -1,10 +1,10 @@
-use Rattle.tables.proofs.WaitingLaws.{waits-not, waits}
-use native.Mathlib.Omega.{arith}
+use Rattle.tables.proofs.WaitingLaws.{waits}
+use Rattle.tables.specs.inner.Waiting.{pending_at}
 use Rattle.tables.proofs.waiting.is_waiting.Goals as goal
 
-pub returns-then-name-eq0 : goal.returns-then-name-eq0
-returns-then-name-eq0 c = λ src alias. waits-not src _ _ alias (omega arith)
+pub returns-in-None : goal.returns-in-None
+unfolding pending_at
+returns-in-None c = λ src alias. rw c.in-None.is
 
-pub returns : goal.returns
-returns c =
-    λ src alias. waits src _ _ alias (λ e. omega arith) c.stretch_of.ensures.0 (c.gives_reference.ensures src)
+pub returns-in-Some : goal.returns-in-Some
+returns-in-Some c = λ src alias. rw c.in-Some.is (waits src _ _ _ alias c.stretch_of.ensures.0 (rw c.stretch_of.ensures.1 at c.gives_reference.ensures src))

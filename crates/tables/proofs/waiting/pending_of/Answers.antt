@@ -1,13 +1,15 @@
-use Rattle.tables.proofs.WaitingLaws.{waiting_none, waiting-name, waiting-both}
+use Rattle.tables.proofs.WaitingLaws.{waiting-name, waiting-both}
+use Rattle.tables.specs.inner.Waiting.{pending_at}
 use Rattle.tables.proofs.waiting.pending_of.Goals as goal
 
-pub returns-then-name-eq0 : goal.returns-then-name-eq0
-returns-then-name-eq0 c = waiting_none _ _ _ _ c.if-name-eq0.true
+pub returns-in_err-n : goal.returns-in_err-n
+unfolding pending_at
+returns-in_err-n c = rw (c.from_residual.ensures, c.in_err-n.was)
 
-pub returns-then-alias-eq0 : goal.returns-then-alias-eq0
-returns-then-alias-eq0 c =
-    waiting-name _ _ _ c.if-name-eq0.false c.stretch_of.ensures.0 c.extract_table_identifier-reference.ensures c.if-alias-eq0.true
+pub returns-in-None : goal.returns-in-None
+returns-in-None c =
+    rw (c.in_ok-n.was, c.in-None.is) (waiting-name _ _ _ _ c.stretch_of.ensures.0 (rw c.stretch_of.ensures.1 at c.extract_table_identifier-reference.ensures))
 
-pub returns : goal.returns
-returns c =
-    waiting-both _ _ _ c.if-name-eq0.false c.stretch_of.ensures.0 c.extract_table_identifier-reference.ensures c.if-alias-eq0.false c.stretch_of-2.ensures.0 c.extract_alias_name-bound.ensures c.with_alias.ensures
+pub returns-in-Some : goal.returns-in-Some
+returns-in-Some c =
+    rw (c.in_ok-n.was, c.in-Some.is) (waiting-both _ _ _ _ c.stretch_of.ensures.0 (rw c.stretch_of.ensures.1 at c.extract_table_identifier-reference.ensures) _ c.stretch_of-in-Some.ensures.0 (rw c.stretch_of-in-Some.ensures.1 at c.extract_alias_name.ensures) c.with_alias.ensures)

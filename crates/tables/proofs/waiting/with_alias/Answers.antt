@@ -1,14 +1,14 @@
 use Rattle.tables.specs.Tables.{aliased}
 use Rattle.tables.proofs.waiting.with_alias.Goals as goal
 
-pub returns-in-Nothing : goal.returns-in-Nothing
+pub returns-in_err-reference : goal.returns-in_err-reference
 unfolding aliased
-returns-in-Nothing c = rw c.in-Nothing.is
+returns-in_err-reference c = rw (c.from_residual.ensures, c.in_err-reference.was)
 
-pub returns-in-Unnamed : goal.returns-in-Unnamed
+pub returns-in-None : goal.returns-in-None
 unfolding aliased
-returns-in-Unnamed c = rw (c.in-Held.is, c.in-Unnamed.is)
+returns-in-None c = rw (c.in_ok-reference.was, c.in-None.is)
 
-pub returns-in-Named : goal.returns-in-Named
+pub returns-in-Some : goal.returns-in-Some
 unfolding aliased
-returns-in-Named c = rw (c.in-Held.is, c.in-Named.is, c.set_alias.ensures, c.bound_name-name.ensures)
+returns-in-Some c = rw (c.in_ok-reference.was, c.in-Some.is, c.bound_name.ensures)

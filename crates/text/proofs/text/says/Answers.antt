@@ -1,20 +1,17 @@
-use Rattle.text.proofs.Texts.{says-short, agree-start, agree_differ, agree-next, agree-end}
-use native.Mathlib.Omega.{arith}
+use Rattle.std.proofs.Common.{rules, tests}
+use Rattle.std.proofs.lemmas.Iterator.{YieldsList-from_slice, YieldsList-from_zip}
+use Rattle.std.proofs.lemmas.Iterator.Search.{all_from_yields_List}
+use mathlib.Core.Path.{◌∙◌}
+use borrow.Author.Tests.{ne_eqb}
+use Rattle.text.proofs.Texts.{says-short, says-pairs, agrees}
 use Rattle.text.proofs.text.says.Goals as goal
 
-pub returns-then-word-n : goal.returns-then-word-n
-returns-then-word-n c = says-short _ _ c.if-word-n.true
+pub returns-then-word-t : goal.returns-then-word-t
+returns-then-word-t c =
+    let w = c.args.word.now in
+    let t = c.args.t.now in
+    all_from_yields_List agrees c.all.new.self _ c.all.result c.all.ensures.ran (YieldsList-from_zip (YieldsList-from_slice t cc) (YieldsList-from_slice w cc)) (λ x b q k. search (rules, tests))
+    ∙ says-pairs w t c.if-word-t.true
 
-pub loop-i-init : goal.loop-i-init
-loop-i-init c = (omega arith, agree-start _ _)
-
-pub returns-then-upper-word : goal.returns-then-upper-word
-returns-then-upper-word c =
-    agree_differ _ _ c.loop-i.invariant.1 (omega arith) (omega arith) c.upper.ensures c.if-upper-word.true
-
-pub loop-i-preserved : goal.loop-i-preserved
-loop-i-preserved c =
-    (omega arith, agree-next _ _ c.loop-i.invariant.1 (omega arith) (omega arith) c.upper.ensures c.if-upper-word.false)
-
-pub returns : goal.returns
-returns c = agree-end _ _ c.loop-i.invariant.1 (omega arith) (omega arith)
+pub returns-else-word-t : goal.returns-else-word-t
+returns-else-word-t c = let d = c.if-word-t.false in ne_eqb _ _ d ∙ says-short _ _ d

@@ -1,10 +1,7 @@
+use Rattle.tokens.proofs.Tokens.{texts-equal}
+use mathlib.Core.Path.{◌∙◌}
 use mathlib.Core.List.{[], ◌∷◌}
-use Rattle.text.proofs.Texts.{differ}
-use Rattle.tokens.proofs.Tokens.{one_byte}
 use Rattle.tokens.proofs.last_token.is_byte.Goals as goal
 
-pub returns-then-t-ne1 : goal.returns-then-t-ne1
-returns-then-t-ne1 c = differ c.args.t.now (c.args.b ∷ []) c.if-t-ne1.true
-
 pub returns : goal.returns
-returns c = one_byte c.args.t.now c.args.b c.if-t-ne1.false
+returns c = c.eq.ensures ∙ rw c.as_slice.ensures (texts-equal c.args.t.now (c.args.b ∷ []))

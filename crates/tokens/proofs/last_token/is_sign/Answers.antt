@@ -2,10 +2,10 @@ use Rattle.tokens.specs.LastToken.{is_text}
 use borrow.Author.Rules.{rules}
 use Rattle.tokens.proofs.last_token.is_sign.Goals as goal
 
-pub returns-in-Nameless : goal.returns-in-Nameless
+pub returns-in-None : goal.returns-in-None
 unfolding is_text
-returns-in-Nameless c = search rules
+returns-in-None c = search rules
 
-pub returns-in-Named : goal.returns-in-Named
+pub returns-in-Some : goal.returns-in-Some
 unfolding is_text
-returns-in-Named c = rw (c.in-Named.is, ← c.text_of.ensures) c.is_byte.ensures
+returns-in-Some c = rw (c.in-Some.is, ← c.text_of.ensures) c.is_byte.ensures

@@ -1,6 +1,0 @@
-use Rattle.replies.specs.Reply.{list_reply}
-use mathlib.Core.Path.{◌∙◌, ap}
-use Rattle.desk.proofs.desk_openers_left.Goals as goal
-
-pub returns : goal.returns
-returns c = let w = c.openers_left.ensures in (c.list_reply.ensures ∙ ap list_reply w.0, w.1)
