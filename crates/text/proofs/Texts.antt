@@ -6,11 +6,11 @@ use mathlib.Core.Bool.{Bool, true, false, ◌&&◌}
 use mathlib.Core.List.{List, [], ◌∷◌}
 use native.Mathlib.Numerals.{add-one}
 use native.Mathlib.Omega.{arith}
+use native.Mathlib.Nat.{le_of_lt}
 use borrow.Author.Tests.{eq-eqb, ne_eqb, lt-ltb, le-ltb, lt-leb, le-leb}
 use lib.Dec.{eqb}
 use Rattle.std.specs.List.{list_all, zip}
 use Rattle.std.specs.Char.{to_ascii_uppercase}
-use Prim.Native.Nat.{min}
 use mathlib.Core.Logic.{◌⊎◌, inl, inr}
 use mathlib.Core.Bool.{and-false}
 use lib.ListN.{length, get_or, take, drop, length-map, length-drop, drop_of_length-le}
@@ -107,17 +107,21 @@ module _ (w t : List ℕ) where
 
 -- ---- the text between two places that need not lie in the source
 
--- it is that between the two where they are cut to the source
-pub text_cut : (s : List ℕ) (start end : ℕ) {from to : ℕ} → to ≡ min end (length s) → from ≡ min start to → take (to - from) (drop from s) ≡ text s start end
-unfolding text
-text_cut s start end {from} {to} e f = go (lt-or-le to start) (lt-or-le end (length s))
-  where
-    go : (to < start) ⊎ (start ≤ to) → (end < length s) ⊎ (length s ≤ end) → take (to - from) (drop from s) ≡ take (end - start) (drop start s)
-    go (inl h) (inl g) = let z : to - from ≡ 0 = omega arith in let w : end - start ≡ 0 = omega arith in rw (z, w)
-    go (inl h) (inr g) = let z : to - from ≡ 0 = omega arith in rw (z, drop_of_length-le s {i = start} (omega arith)) (sym (take_all (end - start) [] (omega arith)))
-    go (inr h) (inl g) = let z : from ≡ start = omega arith in let w : to ≡ end = omega arith in rw (z, w)
-    go (inr h) (inr g) =
-        let z : from ≡ start = omega arith in
-        rw z
-        (take_all (to - start) (drop start s) (rw length-drop (omega arith))
-        ∙ sym (take_all (end - start) (drop start s) (rw length-drop (omega arith))))
+module _ (s : List ℕ) (start end : ℕ) where
+  pub text-back : end < start → [] ≡ text s start end
+  unfolding text
+  text-back h = let e : end - start ≡ 0 = omega arith in rw e
+
+  pub text-inside : take (end - start) (drop start s) ≡ text s start end
+  unfolding text
+  text-inside = refl
+
+  pub text-rest : start ≤ length s → length s < end → take (length s - start) (drop start s) ≡ text s start end
+  unfolding text
+  text-rest h g =
+      take_all (length s - start) (drop start s) (rw length-drop (omega arith))
+      ∙ sym (take_all (end - start) (drop start s) (rw length-drop (omega arith)))
+
+  pub text-past : length s < start → [] ≡ text s start end
+  unfolding text
+  text-past h = rw (drop_of_length-le s (le_of_lt h)) (sym (take_all (end - start) [] (omega arith)))
