@@ -4,7 +4,7 @@ use mathlib.Core.Path.{◌≡◌, refl, sym, ◌∙◌}
 use mathlib.Core.Bool.{Bool, true, false, cond, ◌||◌}
 use mathlib.Core.List.{List, [], ◌∷◌, map, flatten}
 use native.Mathlib.Omega.{arith}
-use borrow.Author.Tests.{eqb-true, leb-true, le-leb}
+use borrow.Author.Tests.{eqb-true, leb-true}
 use lib.Bits.{bit_and}
 use lib.Dec.{eqb, leb}
 use lib.ListN.{length, get_or, take, drop, length-append}
@@ -42,9 +42,6 @@ module _ {b r w : ℕ} (f : Folds b r) (l : letter w ≡ true) where
 
 -- where it is a letter it is the upper case, and elsewhere that is no letter
 module _ {b r : ℕ} (f : Folds b r) where
-  pub folded-letter : 65 ≤ r → r ≤ 90 → r ≡ upper b
-  folded-letter h g = f.so (rw (le-leb 65 r h, le-leb r 90 g))
-
   pub folded-none : (65 ≤ r → r ≤ 90 → ⊥) → letter (upper b) ≡ true → ⊥
   folded-none h e =
       let q = f.so (or_right (letter r) _ e) in

@@ -13,7 +13,7 @@ use mathlib.Core.Bool.{Bool, true, false, cond, not, ◌&&◌, ◌||◌, and-fal
 use mathlib.Core.List.{List, [], ◌∷◌}
 use native.Mathlib.Numerals.{add-one}
 use native.Mathlib.Omega.{arith}
-use native.Mathlib.Nat.{pow-suc, pow-le-pow_right, zero-add}
+use native.Mathlib.Nat.{pow-suc, pow-le-pow_right}
 use borrow.Author.Tests.{ne_eqb, ltb-true, ltb-false, lt-ltb, le-ltb, le-leb, lt-leb, leb-true, eqb-true, eqb-false}
 use lib.Dec.{eqb, ltb, leb}
 use lib.ListN.{length, get_or, take, drop, set, length-drop, drop_of_length-le}
@@ -232,9 +232,6 @@ pub record Reading (all : List Line) (t₀ : List ℕ) (rest : List Line) (t : L
   pub filled : fill record_row t (record_bytes * n) rest ≡ fill record_row t₀ 0 all
   pub counted : n + length rest ≡ length all
   pub ruled : first (record_rules (n + 3) rest) ≡ first (record_rules 3 all)
-
-pub reading-start : (all : List Line) (t₀ : List ℕ) → Reading all t₀ all t₀ 0
-reading-start all t₀ = record { filled = refl; counted = zero-add (length all); ruled = refl }
 
 module _ {all : List Line} {t₀ t : List ℕ} {n : ℕ} (bs : List ℕ) (some : 0 < length bs) (w : Reading all t₀ (lines bs) t n)
     {e : ℕ} (q : e ≡ line_span bs) {b : Bool} (f : b ≡ is_numbers record_digits (line_to bs e)) where

@@ -10,9 +10,8 @@ use mathlib.Core.Path.{◌≡◌, refl, ap, ◌∙◌}
 use mathlib.Core.Bool.{Bool, true, false, ◌&&◌}
 use mathlib.Core.List.{List, [], ◌∷◌, ◌++◌, map, append_assoc}
 use native.Mathlib.Omega.{arith}
-use native.Mathlib.Nat.{pow-suc, add_assoc, suc-mul, mul-suc, zero-add}
+use native.Mathlib.Nat.{pow-suc, add_assoc, mul-suc, zero-add}
 use native.Mathlib.Numerals.{add-one}
-use Rattle.std.proofs.lemmas.Nat.{mul-le}
 use borrow.Author.Tests.{lt-ltb, le-ltb, ltb-true, ltb-false}
 use lib.Dec.{ltb, eqb}
 use lib.ListN.{length, take, drop, length-append}
@@ -43,9 +42,6 @@ put_front xs out {out'} {r} p h =
 pub record Rest (xs out' : List ℕ) (at' : ℕ) (ys out : List ℕ) (at : ℕ) : Type 0 where
   pub bytes : sets out' at' xs ≡ sets out at ys
   pub next : at' + length xs ≡ at + length ys
-
-pub rest-start : (xs ys out : List ℕ) (at' at : ℕ) → xs ≡ ys → at' ≡ at → Rest xs out at' ys out at
-rest-start xs ys out at' at e q = rw (e, q) (record { bytes = refl; next = refl })
 
 pub rest-turn : {zs out' out'' ys out : List ℕ} {at' at'' at : ℕ} (xs all : List ℕ) → all ≡ zs ++ xs → Put zs out' at' out'' at'' → Rest all out' at' ys out at → Rest xs out'' at'' ys out at
 rest-turn {zs} {out'} {out''} {ys} {out} {at'} {at''} {at} xs all e p r =
@@ -113,9 +109,6 @@ fields-turn l from n i h =
     let q : from + 4 * i + 4 ≡ from + 4 * (i + 1) = omega arith in
     rw (e, q)
 
-pub fields-start : (l : List ℕ) (from n : ℕ) → fields (words l (from + 4 * 0) (n - 0)) ≡ fields (words l from n)
-fields-start l from n = let e : from + 4 * 0 ≡ from = omega arith in let q : n - 0 ≡ n = omega arith in rw (e, q)
-
 pub fields-none : (l : List ℕ) (from n i : ℕ) → n ≤ i → fields (words l (from + 4 * i) (n - i)) ≡ []
 unfolding fields words
 fields-none l from n i h = let e : n - i ≡ 0 = omega arith in rw e
@@ -128,9 +121,6 @@ ranges-turn l from n i h =
     let e : n - i + (n - i) ≡ suc (suc (n - (i + 1) + (n - (i + 1)))) = omega arith in
     let q : from + 8 * i + 4 + 4 ≡ from + 8 * (i + 1) = omega arith in
     rw (e, q)
-
-pub ranges-start : (l : List ℕ) (from n : ℕ) → ranges (words l (from + 8 * 0) (n - 0 + (n - 0))) ≡ ranges (words l from (n + n))
-ranges-start l from n = let e : from + 8 * 0 ≡ from = omega arith in let q : n - 0 ≡ n = omega arith in rw (e, q)
 
 pub ranges-none : (l : List ℕ) (from n i : ℕ) → n ≤ i → ranges (words l (from + 8 * i) (n - i + (n - i))) ≡ []
 unfolding ranges words
@@ -148,10 +138,6 @@ words-split l from (suc n) m =
 
 -- ---- a list's entries
 
--- an entry of w bytes that is among k lies before their end
-pub entry-room : (w i k : ℕ) → i < k → w * i + w ≤ k * w
-entry-room w i k h = let p : suc i * w ≤ k * w = mul-le (suc i) w k w (omega arith) (omega arith) in omega (arith, suc-mul i w)
-
 pub lists-turn : (letter n w : ℕ) (l : List ℕ) (i k : ℕ) → i < k
     → printed_words letter n w l (number_bytes * w * i) (k - i)
     ≡ printed letter n (words l (number_bytes * w * i) w) ++ printed_words letter n w l (number_bytes * w * (i + 1)) (k - (i + 1))
@@ -160,9 +146,6 @@ lists-turn letter n w l i k h =
     let e : k - i ≡ suc (k - (i + 1)) = omega arith in
     let q : number_bytes * w * i + number_bytes * w ≡ number_bytes * w * (i + 1) = rw (add-one i, mul-suc (number_bytes * w) i) in
     rw (e, q)
-
-pub lists-start : (letter n w : ℕ) (l : List ℕ) (k : ℕ) → printed_words letter n w l (number_bytes * w * 0) (k - 0) ≡ printed_words letter n w l 0 k
-lists-start letter n w l k = let e : number_bytes * w * 0 ≡ 0 = omega arith in let q : k - 0 ≡ k = omega arith in rw (e, q)
 
 pub lists-none : (letter n w : ℕ) (l : List ℕ) (from k i : ℕ) → k ≤ i → printed_words letter n w l from (k - i) ≡ []
 unfolding printed_words

@@ -4,7 +4,7 @@ use Rattle.lent.specs.declared.refusal.Refusal.{Refusal}
 use Rattle.std.specs.Prelude.{Result, Ok, Err, ℕ, suc, ◌*◌, ◌≤◌, ◌≡◌, cond, List, [], ◌∷◌, length, take, ltb, eqb}
 use Rattle.records.specs.Table.{record_bytes}
 use Rattle.lent.specs.Lists.{list_bytes}
-use Rattle.lent.specs.Verdicts.{first, refused}
+use Rattle.lent.specs.Verdicts.{first}
 use Rattle.lines.specs.declared.input.Frame.{Frame}
 use Rattle.lines.specs.Lines.{Line, line, lf, most_bytes, most_lines, record_rules, frame_rules}
 use Rattle.lines.specs.Frame.{record_row, source_of, offset_of, table_of}
