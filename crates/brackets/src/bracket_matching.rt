@@ -20,7 +20,66 @@ use records::record::count_of;
 use std::marker::Model;
 use table::check::check;
 
-// The bracket stack: an array, of which the first so many elements are the stack, its top last. Each is an opener's record number and its shape.
+// One step of the bracket stack, for record `number` of this kind. The first n elements are the stack, its top last; each is an opener's record number and
+// its shape.
+fn stack_step(stack: &mut [u16], n: usize, kind: usize, number: usize) -> usize
+    requires { (n < length stack.old) × (number < most_records) }
+    ensures { (stack_of stack.new result ≡ stepped_by (stack_of stack.old n) kind number) × (result ≤ n + 1) }
+{
+    match kind {
+        OPENING_ROUND..=OPENING_CURLY => {
+            stack[n] = (4 * number + (kind - OPENING_ROUND)) as u16;
+            n + 1
+        }
+        CLOSING_ROUND..=CLOSING_CURLY => {
+            if n == 0 {
+                return n;
+            }
+            let top = usize::from(stack[n - 1]);
+            if top % 4 == kind - CLOSING_ROUND {
+                n - 1
+            } else {
+                n
+            }
+        }
+        _ => n,
+    }
+}
+
+// Takes the records of a part of the table one after the other; a node does nothing to the stack. Returns how many are on it.
+fn collect_brackets(part: &Part, stack: &mut [u16], n: usize) -> usize
+    requires { (n ≤ part.now.base) × (most_records ≤ length stack.old) }
+    ensures { (stack_of stack.new result ≡ stepped_over (stack_of stack.old n) part.now.bytes.now part.now.base (size part.now))
+        × (result ≤ n + size part.now) }
+{
+    let mut top = n;
+    for i in 0..part.count() {
+        top = stack_step(stack, top, part.kind_at(i), part.base + i);
+    }
+    top
+}
+
+// The stack after a table's tree: each child of record 0 is handed on as a part. Returns how many openers are on it.
+pub fn stack_left(table: &[u8], stack: &mut [u16]) -> usize
+    requires { (0 < count table.now) × (count table.now ≤ most_records) × (most_records ≤ length stack.old) × Stacks table.now }
+    ensures { (stack_of stack.new result ≡ left_by [] (kids (records 0 table.now))) × (result ≤ count table.now) }
+{
+    let m = count_of(table);
+    let mut top = 0;
+    let mut i = 1;
+    // While, not for: the next child begins where the records of this one end.
+    while i < m {
+        let part = Part {
+            bytes: stretch_of(table, i),
+            base: i,
+        };
+        top = collect_brackets(&part, stack, top);
+        i += part.count();
+    }
+    top
+}
+
+// A bracket stack with its room: the first so many elements of an array.
 #[derive(Drop)]
 pub struct BracketStack {
     slots: [u16; MOST_RECORDS],
@@ -46,10 +105,13 @@ impl BracketStack {
         }
     }
 
-    fn clear(&mut self)
-        ensures { self.new ≡ [] }
+    // Becomes the stack after a table's tree. It is lent, since 8 KiB that are returned would be copied.
+    pub fn fill(&mut self, table: &[u8])
+        requires { (0 < count table.now) × (count table.now ≤ most_records) × Stacks table.now }
+        ensures { (self.new ≡ left_by [] (kids (records 0 table.now))) × (length self.new ≤ count table.now) }
     {
-        self.len = 0;
+        let n = stack_left(table, &mut self.slots);
+        self.len = n;
     }
 
     // The openers on the stack, the lowest first.
@@ -57,57 +119,6 @@ impl BracketStack {
         ensures { (result.now ≡ reverse self.now) × (length self.now ≤ most_records) }
     {
         &self.slots[..self.len]
-    }
-
-    // One step, for record `number` of this kind.
-    fn step(&mut self, kind: usize, number: usize)
-        requires { (length self.old < most_records) × (number < most_records) }
-        ensures { (self.new ≡ stepped_by self.old kind number) × (length self.new ≤ length self.old + 1) }
-    {
-        match kind {
-            OPENING_ROUND..=OPENING_CURLY => {
-                self.slots[self.len] = (4 * number + (kind - OPENING_ROUND)) as u16;
-                self.len += 1;
-            }
-            CLOSING_ROUND..=CLOSING_CURLY => {
-                if 0 < self.len
-                    && usize::from(self.slots[self.len - 1]) % 4 == kind - CLOSING_ROUND
-                {
-                    self.len -= 1;
-                }
-            }
-            _ => {}
-        }
-    }
-}
-
-// Takes the records of a part of the table one after the other; a node does nothing to the stack.
-fn collect_brackets(part: &Part, stack: &mut BracketStack)
-    requires { length stack.old ≤ part.now.base }
-    ensures { (stack.new ≡ stepped_over stack.old part.now.bytes.now part.now.base (size part.now))
-        × (length stack.new ≤ length stack.old + size part.now) }
-{
-    for i in 0..part.count() {
-        stack.step(part.kind_at(i), part.base + i);
-    }
-}
-
-// The stack after a table's tree: each child of record 0 is handed on as a part. The stack is lent, since 8 KiB that are returned would be copied.
-pub fn stack_left(table: &[u8], stack: &mut BracketStack)
-    requires { (0 < count table.now) × (count table.now ≤ most_records) × Stacks table.now }
-    ensures { (stack.new ≡ left_by [] (kids (records 0 table.now))) × (length stack.new ≤ count table.now) }
-{
-    stack.clear();
-    let m = count_of(table);
-    let mut i = 1;
-    // While, not for: the next child begins where the records of this one end.
-    while i < m {
-        let part = Part {
-            bytes: stretch_of(table, i),
-            base: i,
-        };
-        collect_brackets(&part, stack);
-        i += part.count();
     }
 }
 
@@ -128,7 +139,7 @@ fn list_openers(table: &[u8], out: &mut [u8]) -> Result<u32, Refusal>
         (openers_left table.now) out.old result out.new }
 {
     let mut stack = BracketStack::new();
-    stack_left(table, &mut stack);
+    stack.fill(table);
     let n = stack.openers().len();
     if out.len() < NUMBER_BYTES * n {
         return refused(Condition::NoRoom, n as u32);

@@ -1,17 +1,15 @@
 -- The rules in their order, and the reply.
 -- Assumes nothing.
 use Prim.Native.Nat.{ℕ, ◌*◌}
-use mathlib.Core.Path.{◌≡◌, refl, ◌∙◌}
+use mathlib.Core.Path.{◌≡◌, ◌∙◌}
 use mathlib.Core.List.{List}
-use native.Mathlib.Omega.{arith}
 use lib.ListN.{drop}
-use Rattle.lent.specs.declared.refusal.Refusal.{Refusal}
-use Rattle.lent.specs.Verdicts.{Verdict}
-use Rattle.std.specs.Prelude.{Option, None, Some, Ok, Err}
+use Rattle.std.specs.Prelude.{Option, None, Some}
 use Rattle.records.specs.Table.{record_bytes, kind_at, records}
 use Rattle.forest.specs.Forest.{kids}
 use Rattle.path.specs.declared.gathered.Gathered.{Gathered}
 use Rattle.path.specs.declared.gathered.Ruling.{Ruling}
+use Rattle.path.specs.inner.Rules.{rule_number}
 use Rattle.contexts.specs.declared.context.CursorContext.{CursorContext}
 use Rattle.cursor.specs.CursorContext.{last_rule, given_or}
 use Rattle.contexts.specs.inner.ByNumber.{trailing_from, given_by}
@@ -25,7 +23,7 @@ module _ (src t : List ℕ) (o : ℕ) (g : Gathered) {a : Option CursorContext} 
   first-given q = rw (← e, q)
 
   pub path-given : {x : CursorContext} {p : List ℕ} {r : Ruling} → a ≡ None → g.ruling ≡ Some r → p ≡ drop (record_bytes * r.node) t
-      → ((base : ℕ) → x ≡ given_by src o g.constrained r.rule (kind_at p 0) (kids (records base p))) → x ≡ analyzed src t o g
+      → ((base : ℕ) → x ≡ given_by src o g.constrained (rule_number r.rule) (kind_at p 0) (kids (records base p))) → x ≡ analyzed src t o g
   unfolding analyzed given_or ruled_by told
   path-given {r = r} q n d s = rw (← e, q, n) (s r.node ∙ rw (d, rest-kind t 0 r.node, rest-inside t r.node))
 

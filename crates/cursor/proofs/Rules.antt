@@ -67,10 +67,10 @@ module _ (src : List ℕ) (o : ℕ) (c : Bool) where
   -- what a rule gives at a node of kind k, if there is one
   unfoldable told-of : Option PathRule → ℕ → Forest → Option CursorContext
   told-of None k f = None
-  told-of (Some r) k f = Some (given_by src o c r k f)
+  told-of (Some r) k f = Some (given_by src o c (rule_number r) k f)
 
   rule-at : (k : ℕ) (x : Next) (f : Forest) → ruled k (path_rules src o (at k x f)) ≡ told-of (rule_of k x) k f
-  unfolding picked speaking ruled gives path_rules rule_of rule_number given_by told-of
+  unfolding picked speaking ruled gives path_rules rule_of given_by told-of
   rule-at k x f = picked-speaking (λ n. told-of n k f) k names (path_rules src o (at k x f))
 
 -- ---- the deepest node whose rule applies

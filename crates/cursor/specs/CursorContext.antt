@@ -1,8 +1,6 @@
 -- Document 01, Cursor: the context at an offset, and "Last".
 -- Definitions only.
-use Rattle.lent.specs.declared.refusal.Refusal.{Refusal}
-use Rattle.lent.specs.Verdicts.{Verdict}
-use Rattle.std.specs.Prelude.{ℕ, Bool, true, cond, ◌&&◌, List, eqb, Option, None, Some, Ok, Err, Result}
+use Rattle.std.specs.Prelude.{ℕ, Bool, true, cond, ◌&&◌, List, eqb, Option, None, Some}
 use Rattle.records.specs.declared.range.Range.{Range}
 use Rattle.records.specs.declared.record.Rec.{Rec}
 use Rattle.records.specs.Kinds.{file}

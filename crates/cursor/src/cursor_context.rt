@@ -61,7 +61,7 @@ fn analyze_path(table: &[u8], source: &[u8], offset: usize, path: Gathered) -> C
     }
     if let Some(ruling) = path.ruling {
         let s = rest_from(table, ruling.node);
-        return rule_context(s, source, offset, ruling.rule, path.constrained);
+        return rule_context(s, source, offset, ruling.rule.number(), path.constrained);
     }
     at_statement_start(table, source, offset)
 }

@@ -17,7 +17,7 @@ use lib.Seq.{length-take-le, take_all, take-take, take-nil}
 use Rattle.std.specs.Prelude.{Ok, Err}
 use Rattle.lent.specs.declared.refusal.Condition.TheVariants.{BadLine}
 use Rattle.lent.specs.declared.refusal.Refusal.{Refusal}
-use Rattle.lent.specs.Verdicts.{first, Verdict, refused}
+use Rattle.lent.specs.Verdicts.{first, Verdict, refused, number_of}
 use Rattle.lent.proofs.Cases.{lt-or-le, both}
 use Rattle.lines.specs.Lines.{Line, lf, lines, all_digits, is_hex, is_source, is_numbers, most_bytes, most_lines, offset_digits, record_digits, last_line, record_rules, frame_rules}
 use Rattle.print.specs.Printed.{refusal_line}
@@ -301,7 +301,7 @@ enough input =
     (λ (h : length input ≤ input_room). rw (take_all input_room input h))
     (lt-or-le input_room (length input))
   where
-    told : (bs : List ℕ) {r : Refusal} → whole bs ≡ Err r → glanced bs ≡ refusal_line r
+    told : (bs : List ℕ) {r : Refusal} → whole bs ≡ Err r → glanced bs ≡ refusal_line (number_of r.condition) r.detail
     told bs e = (unfold replied_to unless_refused in rw (framed bs, e))
 
     go : input_room < length input → (v : Verdict) → whole input ≡ v → glanced (take input_room input) ≡ glanced input

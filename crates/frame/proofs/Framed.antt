@@ -5,6 +5,7 @@ use mathlib.Core.Path.{◌≡◌}
 use mathlib.Core.List.{List}
 use lib.ListN.{take}
 use Rattle.lent.specs.declared.refusal.Refusal.{Refusal}
+use Rattle.lent.specs.Verdicts.{number_of}
 use Rattle.records.specs.Table.{record_bytes}
 use Rattle.lines.specs.Lines.{Line, most_bytes, most_lines}
 use Rattle.print.specs.Printed.{refusal_line}
@@ -16,7 +17,7 @@ use Rattle.lines.specs.declared.input.Frame.{Frame}
 
 -- what is printed for a frame, as its reading found it
 module _ (ls : List Line) (s t : List ℕ) {r : Result Frame Refusal} (h : ReadFrame ls s t r) where
-  pub frame-unreadable : {b : Refusal} → r ≡ Err b → replied_to ls ≡ refusal_line b
+  pub frame-unreadable : {b : Refusal} → r ≡ Err b → replied_to ls ≡ refusal_line (number_of b.condition) b.detail
   unfolding replied_to unless_refused ReadFrame
   frame-unreadable e = rw (← (rw e at h))
 

@@ -31,7 +31,7 @@ pub fn glance(input: &[u8], out: &mut [u8; TEXT_ROOM]) -> usize
     let mut source = [0u8; MOST_BYTES];
     let mut table = [0u8; TABLE_ROOM];
     match read_frame(input, &mut source, &mut table) {
-        Err(refusal) => put_refusal(out, refusal),
+        Err(refusal) => put_refusal(out, refusal.condition.number(), refusal.detail),
         Ok(frame) => {
             let end = RECORD_BYTES * frame.records;
             put_reply(out, &table[..end], &source[..frame.bytes], frame.offset)

@@ -7,7 +7,7 @@ ghost use Rattle.table.specs.Rules.{verdict};
 ghost use Rattle.brackets.specs.Brackets.{stack_left, holding, hint_of};
 ghost use Rattle.brackets.specs.inner.BracketStack.{Stacks, last_by, hint_by};
 
-use brackets::bracket_matching::{BracketStack, stack_left};
+use brackets::bracket_matching::BracketStack;
 use lent::refusal::Refusal;
 use table::check::check_message;
 
@@ -53,7 +53,7 @@ fn find_hint(table: &[u8], message: &[u8]) -> Option<u32>
     ensures { result ≡ hint_of message.now (stack_left table.now) }
 {
     let mut stack = BracketStack::new();
-    stack_left(table, &mut stack);
+    stack.fill(table);
     hint_on(&stack, message)
 }
 

@@ -2,7 +2,7 @@
 // trailing rule, 14 the last.
 ghost use Rattle.std.specs.Prelude.{◌≡◌};
 ghost use Rattle.path.specs.Path.{Deepest, Above};
-ghost use Rattle.path.specs.inner.Rules.{rule_of, applies_over};
+ghost use Rattle.path.specs.inner.Rules.{rule_of, applies_over, rule_number, rule_numbered};
 
 use records::kinds::{
     AGGREGATE_FUNCTION, COLUMN_CODEC, COLUMN_DEFINITION, COLUMN_TYPE_DEFINITION, DATA_TYPE,
@@ -12,21 +12,51 @@ use records::kinds::{
     TABLE_IDENTIFIER, WHERE_CLAUSE,
 };
 
-// A path rule, in the document's order.
+// A path rule, with its number there.
 #[derive(Clone, Copy)]
 pub enum PathRule {
-    From,
-    Join,
-    Insert,
-    Settings,
-    Engine,
-    Format,
-    DataType,
-    Definition,
-    Codec,
-    Function,
-    Column,
-    Start,
+    From = 2,
+    Join = 3,
+    Insert = 4,
+    Settings = 5,
+    Engine = 6,
+    Format = 7,
+    DataType = 8,
+    Definition = 9,
+    Codec = 10,
+    Function = 11,
+    Column = 12,
+    Start = 13,
+}
+
+impl PathRule {
+    // Its number.
+    pub fn number(self) -> usize
+        ensures { result ≡ rule_number self }
+    {
+        self as usize
+    }
+
+    // The rule of this number, if there is one.
+    pub fn numbered(number: usize) -> Option<PathRule>
+        ensures { result ≡ rule_numbered number }
+    {
+        match number {
+            2 => Some(PathRule::From),
+            3 => Some(PathRule::Join),
+            4 => Some(PathRule::Insert),
+            5 => Some(PathRule::Settings),
+            6 => Some(PathRule::Engine),
+            7 => Some(PathRule::Format),
+            8 => Some(PathRule::DataType),
+            9 => Some(PathRule::Definition),
+            10 => Some(PathRule::Codec),
+            11 => Some(PathRule::Function),
+            12 => Some(PathRule::Column),
+            13 => Some(PathRule::Start),
+            _ => None,
+        }
+    }
 }
 
 // The rule that speaks of a node of this kind, if it is deepest.

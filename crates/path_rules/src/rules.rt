@@ -75,30 +75,31 @@ fn column_context(s: &[u8], source: &[u8], offset: usize) -> CursorContext
     check_dot_access(s, source, offset, CursorContext::Expression)
 }
 
-// What the rule gives, at the node that begins the stretch s.
+// What the rule of this number gives, at the node that begins the stretch s: Unknown where no path rule has it.
 pub fn rule_context(
     s: &[u8],
     source: &[u8],
     offset: usize,
-    rule: PathRule,
+    rule: usize,
     constrained: bool,
 ) -> CursorContext
     requires { (0 < count s.now) × Ordered s.now }
     ensures { (base : ℕ) → result ≡ given_by source.now offset constrained rule (kind_at s.now 0)
         (kids (records base s.now)) }
 {
-    match rule {
-        PathRule::From => table_ref_or_dot(s, source, offset),
-        PathRule::Join => join_context(s, source, offset, constrained),
-        PathRule::Insert => table_ref_or_dot(s, source, offset),
-        PathRule::Settings => CursorContext::SettingName,
-        PathRule::Engine => CursorContext::EngineName,
-        PathRule::Format => CursorContext::FormatName,
-        PathRule::DataType => CursorContext::DataType,
-        PathRule::Definition => CursorContext::DataType,
-        PathRule::Codec => CursorContext::CodecName,
-        PathRule::Function => function_argument(s, offset),
-        PathRule::Column => column_context(s, source, offset),
-        PathRule::Start => CursorContext::StatementStart,
+    match PathRule::numbered(rule) {
+        Some(PathRule::From) => table_ref_or_dot(s, source, offset),
+        Some(PathRule::Join) => join_context(s, source, offset, constrained),
+        Some(PathRule::Insert) => table_ref_or_dot(s, source, offset),
+        Some(PathRule::Settings) => CursorContext::SettingName,
+        Some(PathRule::Engine) => CursorContext::EngineName,
+        Some(PathRule::Format) => CursorContext::FormatName,
+        Some(PathRule::DataType) => CursorContext::DataType,
+        Some(PathRule::Definition) => CursorContext::DataType,
+        Some(PathRule::Codec) => CursorContext::CodecName,
+        Some(PathRule::Function) => function_argument(s, offset),
+        Some(PathRule::Column) => column_context(s, source, offset),
+        Some(PathRule::Start) => CursorContext::StatementStart,
+        None => CursorContext::Unknown,
     }
 }

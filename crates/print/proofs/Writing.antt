@@ -138,11 +138,18 @@ words-split l from (suc n) m =
 
 -- ---- a list's entries
 
-pub lists-turn : (letter n w : ℕ) (l : List ℕ) (i k : ℕ) → i < k
+pub lists-turn : (letter n w : ℕ) (l : List ℕ) (from k : ℕ) {width : ℕ} → width ≡ number_bytes * w → 0 < k
+    → printed_words letter n w l from k ≡ printed letter n (words l from w) ++ printed_words letter n w l (from + width) (k - 1)
+unfolding printed_words
+lists-turn letter n w l from zero e h = absurd (omega arith)
+lists-turn letter n w l from (suc k) e h = let q : suc k - 1 ≡ k = omega arith in rw (e, q)
+
+-- the same at entry i
+pub lists-turn-at : (letter n w : ℕ) (l : List ℕ) (i k : ℕ) → i < k
     → printed_words letter n w l (number_bytes * w * i) (k - i)
     ≡ printed letter n (words l (number_bytes * w * i) w) ++ printed_words letter n w l (number_bytes * w * (i + 1)) (k - (i + 1))
 unfolding printed_words
-lists-turn letter n w l i k h =
+lists-turn-at letter n w l i k h =
     let e : k - i ≡ suc (k - (i + 1)) = omega arith in
     let q : number_bytes * w * i + number_bytes * w ≡ number_bytes * w * (i + 1) = rw (add-one i, mul-suc (number_bytes * w) i) in
     rw (e, q)

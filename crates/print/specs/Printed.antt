@@ -1,7 +1,5 @@
 -- Document 01, Worked by hand: the lines that glance prints, and the numbers and ranges in them.
 -- Definitions only.
-use Rattle.lent.specs.declared.refusal.Refusal.{Refusal}
-use Rattle.lent.specs.Verdicts.{number_of}
 use Rattle.std.specs.Prelude.{ℕ, zero, suc, ◌+◌, ◌/◌, ◌%◌, cond, ◌&&◌, List, [], ◌∷◌, ◌++◌, take, drop, ltb, eqb, Option, Some, None}
 use Rattle.text.specs.Text.{bytes_of}
 use Rattle.records.specs.Ranges.{absent_number}
@@ -89,5 +87,5 @@ abbrev pub end_line : List ℕ
 end_line = bytes_of "E" ++ lf ∷ []
 
 -- R: a refusal's number and detail
-abbrev pub refusal_line : Refusal → List ℕ
-refusal_line r = letter_r ∷ field (number_of r.condition) ++ field r.detail ++ lf ∷ []
+abbrev pub refusal_line : ℕ → ℕ → List ℕ
+refusal_line k d = letter_r ∷ field k ++ field d ++ lf ∷ []

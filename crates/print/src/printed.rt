@@ -8,7 +8,6 @@ ghost use Rattle.print.specs.inner.Writing.{Put, words, printed_words, line_room
 
 use contexts::context::{CursorContext, code_of};
 use lent::number::{NUMBER_BYTES, word_at};
-use lent::refusal::Refusal;
 use records::range::ABSENT;
 
 // No line is longer: a letter, thirteen numbers of ten digits with a space before each, LF.
@@ -161,13 +160,13 @@ pub fn put_found(out: &mut [u8], at: usize, found: u32) -> usize
     put_byte(out, second, b'\n')
 }
 
-// Writes the line of a refusal.
-pub fn put_refusal(out: &mut [u8], r: Refusal) -> usize
+// Writes the line of a refusal, of any number.
+pub fn put_refusal(out: &mut [u8], number: u32, detail: u32) -> usize
     requires { line_room ≤ length out.old }
-    ensures { Put (refusal_line r) out.old 0 out.new result × (result ≤ line_room) }
+    ensures { Put (refusal_line number detail) out.old 0 out.new result × (result ≤ line_room) }
 {
     let first = put_byte(out, 0, b'R');
-    let second = put_field(out, first, r.condition.number() as usize);
-    let third = put_field(out, second, r.detail as usize);
+    let second = put_field(out, first, number as usize);
+    let third = put_field(out, second, detail as usize);
     put_byte(out, third, b'\n')
 }

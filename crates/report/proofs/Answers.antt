@@ -13,7 +13,7 @@ use lib.ListN.{length, drop, length-append}
 use borrow.Author.Tests.{ltb-false, le-ltb}
 use Rattle.std.specs.Prelude.{Ok, Err, Result, Option, Some, None}
 use Rattle.lent.specs.declared.refusal.Refusal.{Refusal}
-use Rattle.lent.specs.Verdicts.{Rule, first, Verdict}
+use Rattle.lent.specs.Verdicts.{Rule, first, number_of, Verdict}
 use Rattle.table.specs.Rules.{rules, root_rules, verdict}
 use Rattle.lent.specs.Numbers.{number_bytes}
 use Rattle.lent.specs.Lists.{list_bytes, room_rule, list_verdict, reply, buffer, listed, lent}
@@ -117,7 +117,7 @@ module _ (src t out : List ℕ) (z : length out ≡ reference_room) where
   same-verdict = rw z
 
   module _ {r : Result ℕ Refusal} (w : r ≡ listed (root_rules t (length src) 0) reference_row (table_refs src t 0) out) where
-    pub question-refused : {x : Refusal} → r ≡ Err x → (o : ℕ) → replied src t o ≡ refusal_line x
+    pub question-refused : {x : Refusal} → r ≡ Err x → (o : ℕ) → replied src t o ≡ refusal_line (number_of x.condition) x.detail
     unfolding unless_refused
     question-refused q o = rw (← (list-denied reference_row (root_rules t (length src) 0) (table_refs src t 0) out (sym q ∙ w) ∙ same-verdict))
 

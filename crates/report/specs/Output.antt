@@ -2,7 +2,7 @@
 -- Definitions only.
 use Rattle.lent.specs.declared.refusal.Condition.TheVariants.{NoRoom}
 use Rattle.std.specs.Prelude.{ℕ, List, [], ◌∷◌, ◌++◌, map, length, ltb, Ok, Err}
-use Rattle.lent.specs.Verdicts.{Rule, rule, first, Verdict}
+use Rattle.lent.specs.Verdicts.{Rule, rule, first, number_of, Verdict}
 use Rattle.table.specs.Rules.{root_rules}
 use Rattle.lent.specs.Lists.{list_bytes}
 use Rattle.references.specs.declared.pending.TableRef.{TableRef}
@@ -54,7 +54,7 @@ question_verdict src t = first (root_rules t (length src) 0 ++ reference_rule (t
 -- a refusal prints `R number detail` alone
 unfoldable pub unless_refused : Verdict → List ℕ → List ℕ
 unless_refused (Ok _) text = text
-unless_refused (Err r) text = refusal_line r
+unless_refused (Err r) text = refusal_line (number_of r.condition) r.detail
 
 -- what is printed for a table, a source and an offset
 abbrev pub replied : List ℕ → List ℕ → ℕ → List ℕ

@@ -132,7 +132,7 @@ pub fn put_reply(out: &mut [u8], table: &[u8], source: &[u8], offset: usize) -> 
 {
     let mut refs = [0u8; REFERENCE_ROOM];
     match table_refs(table, source, 0, &mut refs) {
-        Err(refusal) => put_refusal(out, refusal),
+        Err(refusal) => put_refusal(out, refusal.condition.number(), refusal.detail),
         Ok(n) => put_answer(out, table, source, offset, &refs, n as usize),
     }
 }

@@ -26,7 +26,7 @@ fn with_alias(p: Option<TableRef>, b: Option<NameBinding>) -> Option<TableRef>
 }
 
 // The pending reference of a reading, by records of the stretch s that is read: the table name, and the alias that is set.
-// The stretch is no `Part`: without a name it may have no record, and what is asked of a caller may not change.
+// The stretch is no `Part`: without a name it may have no record.
 pub fn pending_of(
     s: &[u8],
     base: usize,
@@ -47,7 +47,7 @@ pub fn pending_of(
 }
 
 // Is a reference pending, by the record of its table name? An alias does not matter to that.
-// The stretch is no `Part`: without a name it may have no record, and what is asked of a caller may not change.
+// The stretch is no `Part`: without a name it may have no record.
 pub fn is_waiting(s: &[u8], base: usize, name: Option<usize>) -> bool
     requires { IfSome name (λ n. n < count s.now) × (base + count s.now ≤ most_records) }
     ensures { (src : List ℕ) (alias : Option ℕ) → result ≡ pends (pending_at src base s.now name alias) }

@@ -4,9 +4,7 @@ use Rattle.std.specs.Prelude.{ℕ, Bool, cond, ◌&&◌, List, [], ◌∷◌, le
 use Rattle.records.specs.Table.{kind_at, start_at, end_at}
 use Rattle.forest.specs.Forest.{Forest, inside}
 use Rattle.records.specs.Kinds.{is_node}
-use Rattle.path.specs.declared.rules.PathRule.{PathRule}
 use Rattle.path.specs.Path.{Deepest}
-use Rattle.path.specs.inner.Rules.{rule_number}
 use Rattle.contexts.specs.declared.context.CursorContext.{CursorContext}
 use Rattle.contexts.specs.declared.context.CursorContext.TheVariants.{Unknown}
 use Rattle.contexts.specs.declared.trailing.Clause.{Clause}
@@ -18,9 +16,9 @@ unfoldable pub gives : ℕ → List NodeRule → CursorContext
 gives n [] = Unknown
 gives n (r ∷ rs) = let on : CursorContext = gives n rs in cond (eqb n r.number) r.gives on
 
--- what a rule gives at a node of kind k with these children
-unfoldable pub given_by : List ℕ → ℕ → Bool → PathRule → ℕ → Forest → CursorContext
-given_by src o constrained r k f = gives (rule_number r) (path_rules src o (record { kind = k; next = Deepest; children = f; constrained = constrained }))
+-- what the rule of number n gives at a node of kind k with these children
+unfoldable pub given_by : List ℕ → ℕ → Bool → ℕ → ℕ → Forest → CursorContext
+given_by src o constrained n k f = gives n (path_rules src o (record { kind = k; next = Deepest; children = f; constrained = constrained }))
 
 -- the last clause after record i
 unfoldable pub clause_at : List ℕ → ℕ → ℕ → Option Clause → Option Clause

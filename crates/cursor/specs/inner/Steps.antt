@@ -5,6 +5,7 @@ use Rattle.records.specs.Table.{kind_at}
 use Rattle.forest.specs.Forest.{inside}
 use Rattle.path.specs.declared.gathered.Gathered.{Gathered}
 use Rattle.path.specs.declared.gathered.Ruling.{Ruling}
+use Rattle.path.specs.inner.Rules.{rule_number}
 use Rattle.contexts.specs.declared.context.CursorContext.{CursorContext}
 use Rattle.contexts.specs.inner.ByNumber.{trailing_from, given_by}
 use Rattle.cursor.specs.CursorContext.{last_rule, given_or}
@@ -12,7 +13,7 @@ use Rattle.cursor.specs.CursorContext.{last_rule, given_or}
 -- what the rule that decides gives at its node, if there is one
 unfoldable pub told : List ℕ → List ℕ → ℕ → Bool → Option Ruling → Option CursorContext
 told src t o constrained None = None
-told src t o constrained (Some r) = Some (given_by src o constrained r.rule (kind_at t r.node) (inside t r.node))
+told src t o constrained (Some r) = Some (given_by src o constrained (rule_number r.rule) (kind_at t r.node) (inside t r.node))
 
 -- what the path's rules give
 unfoldable pub ruled_by : List ℕ → List ℕ → ℕ → Gathered → Option CursorContext

@@ -25,7 +25,7 @@ put_reply-requires c =
 
 pub returns-in-Err : goal.returns-in-Err
 returns-in-Err c =
-    rw (frame-unreadable _ _ _ c.read_frame.ensures c.in-Err.is) (put_front _ _ c.put_refusal.ensures.0 (omega arith))
+    rw (frame-unreadable _ _ _ c.read_frame.ensures c.in-Err.is) (put_front _ _ (rw c.number.ensures at c.put_refusal.ensures.0) (omega arith))
 
 pub returns-in-Ok : goal.returns-in-Ok
 returns-in-Ok c =

@@ -32,7 +32,7 @@ applies_over Start b = false
 applies_over r b = true
 
 -- a rule's number there: rule 1 is the trailing rule
-unfoldable pub rule_number : PathRule → ℕ
+abbrev pub rule_number : PathRule → ℕ
 rule_number From = 2
 rule_number Join = 3
 rule_number Insert = 4
@@ -45,3 +45,20 @@ rule_number Codec = 10
 rule_number Function = 11
 rule_number Column = 12
 rule_number Start = 13
+
+-- the rule of a number, if there is one
+unfoldable pub rule_numbered : ℕ → Option PathRule
+rule_numbered n =
+    cond (eqb n 2) (Some From)
+    (cond (eqb n 3) (Some Join)
+    (cond (eqb n 4) (Some Insert)
+    (cond (eqb n 5) (Some Settings)
+    (cond (eqb n 6) (Some Engine)
+    (cond (eqb n 7) (Some Format)
+    (cond (eqb n 8) (Some DataType)
+    (cond (eqb n 9) (Some Definition)
+    (cond (eqb n 10) (Some Codec)
+    (cond (eqb n 11) (Some Function)
+    (cond (eqb n 12) (Some Column)
+    (cond (eqb n 13) (Some Start)
+    None)))))))))))

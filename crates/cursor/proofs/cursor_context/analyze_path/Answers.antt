@@ -11,7 +11,7 @@ rule_context-requires c = (omega (arith, rw c.in-Some-ruling.is at c.requires.1.
 
 pub returns-in-Some-ruling : goal.returns-in-Some-ruling
 returns-in-Some-ruling c =
-    path-given _ _ _ _ c.check_trailing_clause.ensures c.in_default.is c.in-Some-ruling.is c.rest_from-s.ensures.0 c.rule_context.ensures
+    path-given _ _ _ _ c.check_trailing_clause.ensures c.in_default.is c.in-Some-ruling.is c.rest_from-s.ensures.0 (λ base. rw (← c.number.ensures) (c.rule_context.ensures base))
 
 pub at_statement_start-requires : goal.at_statement_start-requires
 at_statement_start-requires c = (omega arith, c.requires.2)

@@ -4,4 +4,4 @@ use Rattle.print.proofs.printed.put_refusal.Goals as goal
 
 pub returns : goal.returns
 returns c =
-    (rw (← c.number.ensures) (put_then c.put_byte-first.ensures (put_then (put_then c.put_field-second.ensures.0 c.put_field-third.ensures.0) c.put_byte.ensures)), omega arith)
+    (put_then c.put_byte-first.ensures (put_then (put_then c.put_field-second.ensures.0 c.put_field-third.ensures.0) c.put_byte.ensures), omega arith)

@@ -14,7 +14,7 @@ pub returns-in-Err : goal.returns-in-Err
 returns-in-Err c =
     let a = c.args in
     let q = question-refused a.source.now a.table.now _ refl c.table_refs.ensures.0 c.in-Err.is a.offset in
-    (rw q c.put_refusal.ensures.0, omega arith)
+    (rw (q, ← c.number.ensures) c.put_refusal.ensures.0, omega arith)
 
 pub returns-in-Ok : goal.returns-in-Ok
 returns-in-Ok c =
